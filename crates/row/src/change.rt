@@ -1,0 +1,93 @@
+// Cells and changes as memory holds them.
+ghost use mathlib.Core.Path.{_≡_};
+ghost use mathlib.Core.Bool.{cond};
+ghost use mathlib.Core.List.{map};
+ghost use Rattle.row.specs.Records.{cellOf, changeOf, takes, later, rowsFit, answerIf};
+ghost use Rattle.row.specs.Rows.{over, changed, join};
+use crate::fault::Refusal;
+use crate::value::Value;
+
+pub const FIELD_LIMIT: usize = 12;
+
+// What a change does to its cell.
+#[derive(Clone, Copy, PartialEq, Debug)]
+pub enum Mark {
+    Same,
+    Null,
+    Value,
+}
+
+// A change of one field. Where it is same or null, `raw` is the kind's rest record.
+#[derive(Clone, Copy)]
+pub struct Change<R> {
+    pub mark: Mark,
+    pub raw: R,
+}
+
+// A field's state. Where it is null, `raw` is the kind's rest record.
+#[derive(Clone, Copy)]
+pub struct Cell<R> {
+    pub null: bool,
+    pub raw: R,
+}
+
+impl<R: Copy> Cell<R> {
+    // The cell after a change.
+    pub fn changed_by(self, by: Change<R>) -> Cell<R>
+        ensures { λ r. ⌜ r ≡ takes self by ⌝ }
+    {
+        match by.mark {
+            Mark::Same => self,
+            Mark::Null => Cell {
+                null: true,
+                raw: by.raw,
+            },
+            Mark::Value => Cell {
+                null: false,
+                raw: by.raw,
+            },
+        }
+    }
+}
+
+impl<R: Copy> Change<R> {
+    // The change that stands for this one and then another.
+    pub fn then(self, next: Change<R>) -> Change<R>
+        ensures { λ r. ⌜ r ≡ later self next ⌝ }
+    {
+        match next.mark {
+            Mark::Same => self,
+            Mark::Null | Mark::Value => next,
+        }
+    }
+}
+
+// Changes a row by a delta.
+pub fn change_row<R: Value>(row: &mut [Cell<R>], delta: &[Change<R>]) -> Result<(), Refusal>
+    ensures answer { λ r. ⌜ r ≡ answerIf (rowsFit (now (row .entry)) (now (delta .entry))) ⌝ }
+    ensures cells { λ _. ⌜ now (row .exit) ≡ cond (rowsFit (now (row .entry)) (now (delta .entry))) (over takes (now (row .entry)) (now (delta .entry))) (now (row .entry)) ⌝ }
+    ensures means { λ _. ⌜ map (cellOf kind) (now (row .exit)) ≡ cond (rowsFit (now (row .entry)) (now (delta .entry))) (changed (map (cellOf kind) (now (row .entry))) (map (changeOf kind) (now (delta .entry)))) (map (cellOf kind) (now (row .entry))) ⌝ }
+{
+    if row.len() != FIELD_LIMIT || delta.len() != FIELD_LIMIT {
+        return Err(Refusal::MEMORY);
+    }
+    for i in 0..FIELD_LIMIT {
+        row[i] = row[i].changed_by(delta[i]);
+    }
+    Ok(())
+}
+
+// Joins a later delta to an earlier one, in place of the earlier.
+pub fn join_delta<R: Value>(earlier: &mut [Change<R>], next: &[Change<R>]) -> Result<(), Refusal>
+    ensures answer { λ r. ⌜ r ≡ answerIf (rowsFit (now (earlier .entry)) (now (next .entry))) ⌝ }
+    ensures changes { λ _. ⌜ now (earlier .exit) ≡ cond (rowsFit (now (earlier .entry)) (now (next .entry))) (over later (now (earlier .entry)) (now (next .entry))) (now (earlier .entry)) ⌝ }
+    ensures means { λ _. ⌜ map (changeOf kind) (now (earlier .exit)) ≡ cond (rowsFit (now (earlier .entry)) (now (next .entry))) (join (map (changeOf kind) (now (earlier .entry))) (map (changeOf kind) (now (next .entry)))) (map (changeOf kind) (now (earlier .entry))) ⌝ }
+{
+    if earlier.len() != FIELD_LIMIT || next.len() != FIELD_LIMIT {
+        return Err(Refusal::MEMORY);
+    }
+    for i in 0..FIELD_LIMIT {
+        earlier[i] = earlier[i].then(next[i]);
+    }
+    Ok(())
+}
