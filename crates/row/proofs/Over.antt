@@ -4,8 +4,8 @@ use mathlib.Core.Bool.{true, false}
 use mathlib.Core.List.{List, [], _∷_, _++_, map, append-assoc, append-nil}
 use Prim.Native.Nat.{ℕ, _+_, _<_, _≤_}
 use native.Mathlib.Omega.{arith}
-use lib.ListN.{length, getD, set, take, drop}
-use Rattle.std.proofs.shelf.Lists.{take-more-set, drop-set-lt, drop-more, take-all, drop-all}
+use lib.ListN.{length, getD, set, take, drop, replicate}
+use Rattle.std.proofs.shelf.Lists.{take-more-set, drop-set-lt, drop-more, take-all, drop-all, replicate-more}
 use Rattle.std.proofs.shelf.Tests.{and-from, eq-eqb}
 use Rattle.row.specs.Rows.{over, null, value, changeCell, joinChange, changed, join}
 use Rattle.row.specs.Kinds.{Kind}
@@ -54,3 +54,10 @@ over-all f xs ys i h = (λ j. take-all i xs h j ++ over f (drop-all i xs h j) ys
 
 pub rows-fit : {X Y : Type 0} (xs : List X) (ys : List Y) → length xs ≡ 12 → length ys ≡ 12 → rowsFit xs ys ≡ true
 rows-fit xs ys e f = and-from _ _ (eq-eqb (length xs) 12 e) (eq-eqb (length ys) 12 f)
+
+-- a loop that writes one element everywhere
+pub fill-step : {X : Type 0} (xs : List X) (i : ℕ) (x : X) → i < length xs → take i xs ≡ replicate i x → take (i + 1) (set xs i x) ≡ replicate (i + 1) x
+fill-step xs i x h e = take-more-set xs i x h ∙ ap (λ l. l ++ x ∷ []) e ∙ replicate-more i x
+
+pub fill-all : {X : Type 0} (xs : List X) (i n : ℕ) (x : X) → length xs ≡ n → n ≡ i → take i xs ≡ replicate i x → xs ≡ replicate n x
+fill-all xs i n x long is e = sym (take-all i xs (omega arith)) ∙ e ∙ ap (λ m. replicate m x) (sym is)

@@ -34,6 +34,10 @@ module _ {R : Type 0} (k : Kind R) where
   held (becomes null) = record { mark = Null; raw = restRecord k }
   held (becomes (value t)) = record { mark = Value; raw = k .raw t }
 
+  -- how memory holds a cell that is null
+  abbrev pub nullCell : Cell R
+  nullCell = record { null = true; raw = restRecord k }
+
 -- one cell after one change, as records
 abbrev pub taken : {R : Type 0} → Mark → Cell R → R → Cell R
 taken Same c r = c

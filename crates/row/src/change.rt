@@ -2,8 +2,9 @@
 ghost use mathlib.Core.Path.{_≡_};
 ghost use mathlib.Core.Bool.{cond};
 ghost use mathlib.Core.List.{map};
-ghost use Rattle.row.specs.Records.{cellOf, changeOf, takes, later, rowsFit, answerIf};
-ghost use Rattle.row.specs.Rows.{over, changed, join};
+ghost use lib.ListN.{length, replicate};
+ghost use Rattle.row.specs.Records.{cellOf, changeOf, held, nullCell, takes, later, rowsFit, answerIf};
+ghost use Rattle.row.specs.Rows.{same, over, changed, join};
 use crate::fault::Refusal;
 use crate::value::Value;
 
@@ -60,6 +61,36 @@ impl<R: Copy> Change<R> {
             Mark::Null | Mark::Value => next,
         }
     }
+}
+
+fn fill<X: Copy>(places: &mut [X], x: X)
+    ensures { λ _. ⌜ now (places .exit) ≡ replicate (length (now (places .entry))) x ⌝ }
+{
+    for i in 0..places.len() {
+        places[i] = x;
+    }
+}
+
+// Makes every change same.
+pub fn blank<R: Value>(delta: &mut [Change<R>])
+    ensures { λ _. ⌜ now (delta .exit) ≡ replicate (length (now (delta .entry))) (held kind same) ⌝ }
+{
+    let same = Change {
+        mark: Mark::Same,
+        raw: R::rest(),
+    };
+    fill(delta, same);
+}
+
+// Makes every cell null.
+pub fn nullify<R: Value>(row: &mut [Cell<R>])
+    ensures { λ _. ⌜ now (row .exit) ≡ replicate (length (now (row .entry))) (nullCell kind) ⌝ }
+{
+    let null = Cell {
+        null: true,
+        raw: R::rest(),
+    };
+    fill(row, null);
 }
 
 // Changes a row by a delta.

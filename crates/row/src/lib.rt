@@ -5,10 +5,18 @@ mod text;
 mod value;
 
 pub use change::Cell;
+pub use change::CellClone;
 pub use change::Change;
+pub use change::ChangeClone;
+pub use change::FIELD_LIMIT;
 pub use change::Mark;
+pub use change::blank;
+pub use change::change_row;
+pub use change::join_delta;
+pub use change::nullify;
 pub use fault::Fault;
 pub use fault::Refusal;
+pub use text::TEXT_LIMIT;
 pub use text::Text;
 pub use text::TextRecord;
 pub use value::TextValue;

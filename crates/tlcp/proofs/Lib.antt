@@ -1,3 +1,10 @@
 pub mod Table
 pub mod Places
 pub mod Steps
+pub mod Unescaped
+pub mod Spelling
+pub mod WrittenLists
+pub mod Numerals
+pub mod Saying
+pub mod Contents
+pub mod Filling

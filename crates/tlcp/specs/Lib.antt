@@ -5,3 +5,4 @@ pub mod Escapes
 pub mod Numbers
 pub mod Lists
 pub mod Lines
+pub mod Held

@@ -1,0 +1,158 @@
+// Value lists: reading.
+ghost use mathlib.Core.Path.{_≡_};
+ghost use mathlib.Core.Bool.{cond, true};
+ghost use Prim.Native.Nat.{_+_, _-_, _≤_, _<_};
+ghost use lib.Dec.{eqb, leb};
+ghost use lib.ListN.{length, set};
+ghost use Rattle.std.specs.Results.{Cases, isOk};
+ghost use Rattle.std.specs.declared.option.Option.the-variants.{Some, None};
+ghost use Rattle.std.specs.declared.result.Result.the-variants.{Ok, Err};
+ghost use Rattle.row.specs.Limits.{fieldLimit};
+ghost use Rattle.row.specs.Records.{memoryRefusal};
+ghost use Rattle.tlcp.specs.Held.{meantOr, heldDelta, answerOf, countOf, placed};
+ghost use Rattle.tlcp.specs.Lists.{uncovered, values, readContent, readValue, readValues, readList};
+use row::Change;
+use row::FIELD_LIMIT;
+use row::Fault;
+use row::Mark;
+use row::Refusal;
+use row::TEXT_LIMIT;
+use row::Value;
+use row::blank;
+use crate::escape::decode;
+use crate::number::read_number;
+use crate::part::split;
+use crate::spelled::Spelled;
+
+const UNCOVERED: Refusal = Refusal {
+    fault: Fault::Cover,
+    place: 0,
+};
+
+// A value that is neither empty nor one of the marks.
+fn read_content<R: Value>(value: &[u8]) -> Result<Spelled<R>, Refusal>
+    ensures answer { λ r. ⌜ r ≡ meantOr kind (readContent (kind .allowed) (now (value .entry))) ⌝ }
+    ensures within { λ r. ⌜ Cases r (λ _. Unit {0}) (λ e. e .place ≤ length (now (value .entry))) ⌝ }
+{
+    let mut text = [0u8; TEXT_LIMIT];
+    match decode(value, &mut text) {
+        Err(place) => Err(Refusal {
+            fault: Fault::Escape,
+            place,
+        }),
+        Ok(n) if n <= TEXT_LIMIT => match R::read(&text[0..n]) {
+            Some(raw) => Ok(Spelled::One(Change {
+                mark: Mark::Value,
+                raw,
+            })),
+            None => Err(Refusal {
+                fault: Fault::Value,
+                place: 0,
+            }),
+        },
+        Ok(_) => Err(Refusal {
+            fault: Fault::Value,
+            place: 0,
+        }),
+    }
+}
+
+// One value; places are counted from its first byte.
+fn read_value<R: Value>(value: &[u8]) -> Result<Spelled<R>, Refusal>
+    ensures answer { λ r. ⌜ r ≡ meantOr kind (readValue (kind .allowed) (now (value .entry))) ⌝ }
+    ensures within { λ r. ⌜ Cases r (λ _. Unit {0}) (λ e. e .place ≤ length (now (value .entry))) ⌝ }
+{
+    match value {
+        [] => Ok(Spelled::Sames(1)),
+        [b'^', digits @ ..] => match read_number(digits, 1, FIELD_LIMIT as u32) {
+            Some(n) => Ok(Spelled::Sames(n as usize)),
+            None => Err(Refusal {
+                fault: Fault::Number,
+                place: 0,
+            }),
+        },
+        [b'#'] => Ok(Spelled::One(Change {
+            mark: Mark::Null,
+            raw: R::rest(),
+        })),
+        [b'$'] => read_content(b""),
+        _ => read_content(value),
+    }
+}
+
+// Takes what a value says of the fields from `covered` on. Answers how many are covered then, or nothing
+// where the value runs past the row.
+fn place<R: Value>(said: Spelled<R>, covered: usize, fields: usize, delta: &mut [Change<R>]) -> Option<usize>
+    requires { ⌜ covered < fields ⌝ ∗ ⌜ fields ≤ length (now delta) ⌝ }
+    ensures answer { λ r. ⌜ r ≡ cond (leb (countOf said) (fields - covered)) (Some (covered + countOf said)) None ⌝ }
+    ensures changes { λ _. ⌜ now (delta .exit) ≡ placed said covered (now (delta .entry)) ⌝ }
+{
+    match said {
+        Spelled::Sames(n) => {
+            if n <= fields - covered {
+                Some(covered + n)
+            } else {
+                None
+            }
+        }
+        Spelled::One(change) => {
+            delta[covered] = change;
+            Some(covered + 1)
+        }
+    }
+}
+
+// Reads the values one after another into a delta that is all same.
+fn read_values<R: Value>(list: &[u8], fields: usize, delta: &mut [Change<R>]) -> Result<(), Refusal>
+    requires { ⌜ fields ≤ fieldLimit ⌝ ∗ ⌜ now delta ≡ heldDelta kind (Err uncovered) ⌝ }
+    ensures answer { λ r. ⌜ r ≡ answerOf (readValues (kind .allowed) 0 fields (values (now (list .entry)))) ⌝ }
+    ensures changes { λ r. ⌜ (isOk r ≡ true → now (delta .exit) ≡ heldDelta kind (readValues (kind .allowed) 0 fields (values (now (list .entry))))) ⌝ }
+    ensures within { λ r. ⌜ Cases r (λ _. Unit {0}) (λ e. e .place ≤ length (now (list .entry))) ⌝ }
+{
+    let mut covered = 0;
+    let mut left = list;
+    while covered < fields {
+        let (value, rest) = split(left, b'|');
+        let said = match read_value::<R>(value) {
+            Ok(said) => said,
+            Err(refusal) => {
+                return Err(Refusal {
+                    fault: refusal.fault,
+                    place: list.len() - left.len() + refusal.place,
+                });
+            }
+        };
+        let Some(more) = place(said, covered, fields, delta) else {
+            return Err(UNCOVERED);
+        };
+        covered = more;
+        let Some(rest) = rest else {
+            return if covered == fields { Ok(()) } else { Err(UNCOVERED) };
+        };
+        left = rest;
+    }
+    Err(UNCOVERED)
+}
+
+// Reads a list for a row of so many fields. The delta's twelve places then hold what the list says, with same
+// behind the fields, or where it is refused twelve same.
+pub fn read_list<R: Value>(list: &[u8], fields: usize, delta: &mut [Change<R>]) -> Result<(), Refusal>
+    ensures answer { λ r. ⌜ r ≡ cond (eqb (length (now (delta .entry))) fieldLimit) (answerOf (readList (kind .allowed) fields (now (list .entry)))) (Err memoryRefusal) ⌝ }
+    ensures changes { λ _. ⌜ now (delta .exit) ≡ cond (eqb (length (now (delta .entry))) fieldLimit) (heldDelta kind (readList (kind .allowed) fields (now (list .entry)))) (now (delta .entry)) ⌝ }
+    ensures within { λ r. ⌜ Cases r (λ _. Unit {0}) (λ e. e .place ≤ length (now (list .entry))) ⌝ }
+{
+    if delta.len() != FIELD_LIMIT {
+        return Err(Refusal::MEMORY);
+    }
+    blank(delta);
+    if fields > FIELD_LIMIT {
+        return Err(UNCOVERED);
+    }
+    match read_values(list, fields, delta) {
+        Ok(()) => Ok(()),
+        Err(refusal) => {
+            blank(delta);
+            Err(refusal)
+        }
+    }
+}

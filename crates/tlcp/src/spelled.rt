@@ -1,0 +1,10 @@
+// What one value of a list says.
+use row::Change;
+use row::ChangeClone;
+
+#[derive(Clone, Copy)]
+pub enum Spelled<R> {
+    // so many fields are same
+    Sames(usize),
+    One(Change<R>),
+}
