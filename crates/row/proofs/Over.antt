@@ -1,15 +1,15 @@
 -- A function applied place by place: the step of a loop that does it in place, and its meaning.
 use mathlib.Core.Path.{_≡_, refl, sym, ap, _∙_}
-use mathlib.Core.Bool.{true, false}
+use mathlib.Core.Bool.{Bool, true, false}
 use mathlib.Core.List.{List, [], _∷_, _++_, map, append-assoc, append-nil}
 use Prim.Native.Nat.{ℕ, _+_, _<_, _≤_}
 use native.Mathlib.Omega.{arith}
 use lib.ListN.{length, getD, set, take, drop, replicate}
-use Rattle.std.proofs.shelf.Lists.{take-more-set, drop-set-lt, drop-more, take-all, drop-all, replicate-more}
+use Rattle.std.proofs.shelf.Lists.{take-more-set, drop-set-lt, drop-more, take-all, drop-all, replicate-more, map-more}
 use Rattle.std.proofs.shelf.Tests.{and-from, eq-eqb}
-use Rattle.row.specs.Rows.{over, null, value, changeCell, joinChange, changed, join}
+use Rattle.row.specs.Rows.{over, becomes, null, value, changeCell, joinChange, changed, join}
 use Rattle.row.specs.Kinds.{Kind}
-use Rattle.row.specs.Records.{cellOf, changeOf, takes, later, rowsFit}
+use Rattle.row.specs.Records.{cellOf, changeOf, takes, later, wholly, rowsFit}
 use Rattle.row.specs.declared.change.Cell.{Cell}
 use Rattle.row.specs.declared.change.Change.{Change}
 use Rattle.row.specs.declared.change.Mark.{Mark}
@@ -61,3 +61,27 @@ fill-step xs i x h e = take-more-set xs i x h ∙ ap (λ l. l ++ x ∷ []) e ∙
 
 pub fill-all : {X : Type 0} (xs : List X) (i n : ℕ) (x : X) → length xs ≡ n → n ≡ i → take i xs ≡ replicate i x → xs ≡ replicate n x
 fill-all xs i n x long is e = sym (take-all i xs (omega arith)) ∙ e ∙ ap (λ m. replicate m x) (sym is)
+
+-- a loop that writes f of each element of xs to its place
+pub copy-step : {X Y : Type 0} (f : X → Y) (xs : List X) (ys : List Y) (i : ℕ) (x : X) → i < length xs → i < length ys → x ≡ getD xs i x → take i ys ≡ map f (take i xs) → take (i + 1) (set ys i (f x)) ≡ map f (take (i + 1) xs)
+copy-step f xs ys i x inX inY read e =
+    take-more-set ys i (f x) inY
+    ∙ ap (λ l. l ++ f x ∷ []) e
+    ∙ ap (λ y. map f (take i xs) ++ f y ∷ []) read
+    ∙ sym (map-more f xs i x inX)
+
+pub copy-all : {X Y : Type 0} (f : X → Y) (xs : List X) (ys : List Y) (i : ℕ) → length xs ≤ i → length ys ≤ i → take i ys ≡ map f (take i xs) → ys ≡ map f xs
+copy-all f xs ys i inX inY e = sym (take-all i ys inY) ∙ e ∙ ap (map f) (take-all i xs inX)
+
+map-map : {X Y Z : Type 0} (f : X → Y) (g : Y → Z) (h : X → Z) → ((x : X) → g (f x) ≡ h x) → (xs : List X) → map g (map f xs) ≡ map h xs
+map-map f g h e [] = refl
+map-map f g h e (x ∷ xs) = λ i. e x i ∷ map-map f g h e xs i
+
+pub wholly-means : {R : Type 0} (k : Kind R) (cs : List (Cell R)) → map (changeOf k) (map wholly cs) ≡ map becomes (map (cellOf k) cs)
+wholly-means k cs =
+    map-map wholly (changeOf k) (λ c. becomes (cellOf k c)) (λ c. by (c .null) (c .raw)) cs
+    ∙ sym (map-map (cellOf k) becomes (λ c. becomes (cellOf k c)) (λ c. refl) cs)
+  where
+    by : (n : Bool) (r : _) → changeOf k (wholly (record { null = n; raw = r })) ≡ becomes (cellOf k (record { null = n; raw = r }))
+    by true r = refl
+    by false r = refl

@@ -56,6 +56,10 @@ laterBy Value c d = d
 abbrev pub later : {R : Type 0} → Change R → Change R → Change R
 later c d = laterBy (d .mark) c d
 
+-- the change that gives a cell this state
+abbrev pub wholly : {R : Type 0} → Cell R → Change R
+wholly c = record { mark = cond (c .null) Null Value; raw = c .raw }
+
 -- both lists have the places of a row
 abbrev pub rowsFit : {X Y : Type 0} → List X → List Y → Bool
 rowsFit xs ys = eqb (length xs) fieldLimit && eqb (length ys) fieldLimit

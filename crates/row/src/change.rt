@@ -1,10 +1,10 @@
 // Cells and changes as memory holds them.
 ghost use mathlib.Core.Path.{_≡_};
-ghost use mathlib.Core.Bool.{cond};
+ghost use mathlib.Core.Bool.{cond, true};
 ghost use mathlib.Core.List.{map};
 ghost use lib.ListN.{length, replicate};
-ghost use Rattle.row.specs.Records.{cellOf, changeOf, held, nullCell, takes, later, rowsFit, answerIf};
-ghost use Rattle.row.specs.Rows.{same, over, changed, join};
+ghost use Rattle.row.specs.Records.{cellOf, changeOf, held, nullCell, takes, wholly, later, rowsFit, answerIf};
+ghost use Rattle.row.specs.Rows.{same, becomes, over, changed, join};
 use crate::fault::Refusal;
 use crate::value::Value;
 
@@ -47,6 +47,19 @@ impl<R: Copy> Cell<R> {
                 null: false,
                 raw: by.raw,
             },
+        }
+    }
+}
+
+impl<R: Copy> Cell<R> {
+    // The change that gives any cell this one's state.
+    pub fn as_change(self) -> Change<R>
+        ensures { λ r. ⌜ r ≡ wholly self ⌝ }
+    {
+        let mark = if self.null { Mark::Null } else { Mark::Value };
+        Change {
+            mark,
+            raw: self.raw,
         }
     }
 }
@@ -119,6 +132,21 @@ pub fn join_delta<R: Value>(earlier: &mut [Change<R>], next: &[Change<R>]) -> Re
     }
     for i in 0..FIELD_LIMIT {
         earlier[i] = earlier[i].then(next[i]);
+    }
+    Ok(())
+}
+
+// Makes a delta of a whole row: every field null or a value.
+pub fn whole_row<R: Value>(row: &[Cell<R>], delta: &mut [Change<R>]) -> Result<(), Refusal>
+    ensures answer { λ r. ⌜ r ≡ answerIf (rowsFit (now (row .entry)) (now (delta .entry))) ⌝ }
+    ensures changes { λ _. ⌜ now (delta .exit) ≡ cond (rowsFit (now (row .entry)) (now (delta .entry))) (map wholly (now (row .entry))) (now (delta .entry)) ⌝ }
+    ensures means { λ _. ⌜ (rowsFit (now (row .entry)) (now (delta .entry)) ≡ true → map (changeOf kind) (now (delta .exit)) ≡ map becomes (map (cellOf kind) (now (row .entry)))) ⌝ }
+{
+    if row.len() != FIELD_LIMIT || delta.len() != FIELD_LIMIT {
+        return Err(Refusal::MEMORY);
+    }
+    for i in 0..FIELD_LIMIT {
+        delta[i] = row[i].as_change();
     }
     Ok(())
 }

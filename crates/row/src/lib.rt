@@ -14,6 +14,7 @@ pub use change::blank;
 pub use change::change_row;
 pub use change::join_delta;
 pub use change::nullify;
+pub use change::whole_row;
 pub use fault::Fault;
 pub use fault::Refusal;
 pub use text::TEXT_LIMIT;
