@@ -8,3 +8,6 @@ pub mod Numerals
 pub mod Saying
 pub mod Contents
 pub mod Filling
+pub mod Placing
+pub mod Appending
+pub mod Deltas

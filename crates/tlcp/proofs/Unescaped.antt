@@ -130,7 +130,7 @@ spelled-content false b s other =
 pub encode-content : (b : ℕ) (t : List ℕ) → Content (encode (b ∷ t))
 encode-content b t = spelled-content (isEscapedFirst b) b (encodeRest t) (λ e. e)
 
-length-spelled : (v : Bool) (b : ℕ) → length (spelled v b) ≤ 3
+pub length-spelled : (v : Bool) (b : ℕ) → length (spelled v b) ≤ 3
 length-spelled true b = omega arith
 length-spelled false b = omega arith
 

@@ -17,6 +17,7 @@ use Rattle.row.specs.Rows.{Change, same, becomes, null, value}
 use Rattle.tlcp.specs.Escapes.{Decodes}
 use Rattle.tlcp.specs.Lists.{hasPipe, NoPipes, Means, unchanged, run, nothing, empty, content, Row, done, next, runValues, textValue, writtenValues, writtenList, Allowed, ReadsWritten, WrittenShort}
 use Rattle.tlcp.specs.Numbers.{ReadsDecimal}
+use Rattle.tlcp.specs.Written.{fieldRoom}
 use Rattle.tlcp.proofs.Spelling.{behindPipes, reads-spelled}
 use Rattle.tlcp.proofs.Unescaped.{no-pipe-append, no-pipe-encode, decodes-encode, encode-content, length-encode}
 
@@ -99,15 +100,11 @@ reads-written reads allowed bytes d some few all =
     reads-spelled reads allowed (length d) (writtenList d) d few .1
     (record { parts = writtenValues 0 d; some = row-some allowed (h .means) some; apart = h .apart; whole = refl; means = h .means }) refl
 
--- what a field takes at most: a pipe, and a text whose bytes are all escaped
-abbrev fieldRoom : ℕ
-fieldRoom = 3 * textLimit + 1
-
 length-behind : (vs ws : List (List ℕ)) → length (behindPipes (vs ++ ws)) ≡ length (behindPipes vs) + length (behindPipes ws)
 length-behind [] ws = omega arith
 length-behind (v ∷ vs) ws = simp length-append (omega (arith, length-behind vs ws))
 
-short-run : (n : ℕ) → n ≤ fieldLimit → length (behindPipes (runValues n)) ≤ fieldRoom * n
+pub short-run : (n : ℕ) → n ≤ fieldLimit → length (behindPipes (runValues n)) ≤ fieldRoom * n
 short-run n few =
     cond-both (leb n 3) _ _ (λ vs. length (behindPipes vs) ≤ fieldRoom * n)
     (λ _. omega (arith, empties n))
@@ -117,7 +114,7 @@ short-run n few =
     empties zero = refl
     empties (suc k) = ap suc (empties k)
 
-length-text : (t : List ℕ) → length t ≤ textLimit → length (textValue t) ≤ 3 * textLimit
+pub length-text : (t : List ℕ) → length t ≤ textLimit → length (textValue t) ≤ 3 * textLimit
 length-text [] h = omega arith
 length-text (b ∷ t) h = omega (arith, length-encode (b ∷ t))
 

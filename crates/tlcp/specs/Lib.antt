@@ -6,3 +6,5 @@ pub mod Numbers
 pub mod Lists
 pub mod Lines
 pub mod Held
+pub mod Examples
+pub mod Written

@@ -10,7 +10,7 @@ ghost use Rattle.std.specs.declared.result.Result.the-variants.{Ok, Err};
 ghost use Rattle.row.specs.Limits.{fieldLimit};
 ghost use Rattle.row.specs.Records.{memoryRefusal};
 ghost use Rattle.tlcp.specs.Held.{meantOr, heldDelta, answerOf, countOf, placed};
-ghost use Rattle.tlcp.specs.Lists.{uncovered, values, readContent, readValue, readValues, readList};
+ghost use Rattle.tlcp.specs.Lists.{uncovered, values, readContent, readValue, readValues, readList, ReadsSpelled};
 use row::Change;
 use row::FIELD_LIMIT;
 use row::Fault;
@@ -140,6 +140,7 @@ pub fn read_list<R: Value>(list: &[u8], fields: usize, delta: &mut [Change<R>]) 
     ensures answer { λ r. ⌜ r ≡ cond (eqb (length (now (delta .entry))) fieldLimit) (answerOf (readList (kind .allowed) fields (now (list .entry)))) (Err memoryRefusal) ⌝ }
     ensures changes { λ _. ⌜ now (delta .exit) ≡ cond (eqb (length (now (delta .entry))) fieldLimit) (heldDelta kind (readList (kind .allowed) fields (now (list .entry)))) (now (delta .entry)) ⌝ }
     ensures within { λ r. ⌜ Cases r (λ _. Unit {0}) (λ e. e .place ≤ length (now (list .entry))) ⌝ }
+    ensures spelled { λ _. ⌜ ReadsSpelled ⌝ }
 {
     if delta.len() != FIELD_LIMIT {
         return Err(Refusal::MEMORY);
