@@ -11,3 +11,4 @@ pub mod Filling
 pub mod Placing
 pub mod Appending
 pub mod Deltas
+pub mod Reading

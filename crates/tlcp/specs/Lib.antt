@@ -8,3 +8,4 @@ pub mod Lines
 pub mod Held
 pub mod Examples
 pub mod Written
+pub mod Said

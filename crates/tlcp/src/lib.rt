@@ -1,26 +1,38 @@
 // The text of TLCP 2.0.0: byte classes, escapes, numbers, value lists and lines.
+mod argument;
 mod class;
+mod divide;
 mod escape;
 mod examples;
+mod line;
 mod list;
 mod list_write;
 mod number;
 mod part;
+mod shape;
 mod spelled;
 mod tag;
 mod write;
 
+pub use argument::Code;
+pub use argument::Number;
 pub use class::Class;
 pub use class::is_of;
 pub use escape::decode;
 pub use examples::worked_examples;
+pub use line::LINE_LIMIT;
+pub use line::Line;
+pub use line::Notification;
+pub use line::read_line;
 pub use list::read_list;
 pub use list_write::LIST_LIMIT;
 pub use list_write::write_list;
 pub use number::read_code;
 pub use number::read_number;
+pub use part::Part;
 pub use part::find;
 pub use part::split;
+pub use shape::ID_LIMIT;
 pub use tag::Tag;
 pub use write::put;
 pub use write::write_number;
