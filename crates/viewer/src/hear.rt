@@ -4,8 +4,9 @@ ghost use Prim.Native.Nat.{_<_, _≤_, _+_};
 ghost use lib.ListN.{length};
 ghost use mathlib.Core.List.{map};
 ghost use Rattle.std.specs.declared.result.Result.the-variants.{Ok};
+ghost use Rattle.tlcp.specs.Said.{AllInLine, InLine, argumentsIn, pieceIn, tagIn};
 ghost use Rattle.viewer.specs.Entries.{waiting, entryAt, findEntry};
-ghost use Rattle.viewer.specs.Hearing.{setEntry, update, hearEffect, heard};
+ghost use Rattle.viewer.specs.Hearing.{blankDelta, effectOf, setEntry, update, hearEffect, heard};
 ghost use Rattle.viewer.specs.Limits.{cellLimit};
 ghost use Rattle.viewer.specs.declared.entry.Wanted.the-variants.{Any, Open};
 use row::Cell;
@@ -14,6 +15,10 @@ use row::FIELD_LIMIT;
 use row::Refusal;
 use row::Value;
 use row::blank;
+use tlcp::Notification;
+use tlcp::Part;
+use tlcp::read_line;
+use tlcp::read_list;
 use crate::entry::Entry;
 use crate::entry::TAP_LIMIT;
 use crate::entry::Wanted;
@@ -75,5 +80,84 @@ impl Viewer {
         self.entries[i] = entry;
         clear_row(cells, i);
         Heard::Taken
+    }
+
+    // Changes the row of the open entry with an ID by a value list.
+    fn update<R: Value>(
+        &self,
+        id: u32,
+        values: Part<'_>,
+        cells: &mut [Cell<R>],
+        delta: &mut [Change<R>],
+    ) -> Result<Heard, Refusal>
+        requires { ⌜ length (now cells) ≡ cellLimit ⌝ ∗ ⌜ now delta ≡ blankDelta kind ⌝ ∗ ⌜ InLine values ⌝ }
+        ensures cells { λ _. ⌜ now (cells .exit) ≡ update kind (now (self .entry) .entries) (now (cells .entry)) (pieceIn (values .entry)) (findEntry Open id (now (self .entry) .entries)) .cells ⌝ }
+        ensures changes { λ _. ⌜ now (delta .exit) ≡ update kind (now (self .entry) .entries) (now (cells .entry)) (pieceIn (values .entry)) (findEntry Open id (now (self .entry) .entries)) .delta ⌝ }
+        ensures answer { λ r. ⌜ r ≡ update kind (now (self .entry) .entries) (now (cells .entry)) (pieceIn (values .entry)) (findEntry Open id (now (self .entry) .entries)) .answer ⌝ }
+    {
+        let Some(i) = find_entry(&self.entries, Wanted::Open, id) else {
+            return Ok(Heard::Passed);
+        };
+        let fields = self.entries[i].fields;
+        match read_list(values.bytes, fields, delta) {
+            Ok(()) => {
+                update_row(cells, i, delta);
+                Ok(Heard::Taken)
+            }
+            Err(refusal) => Err(Refusal {
+                fault: refusal.fault,
+                place: values.at + refusal.place,
+            }),
+        }
+    }
+
+    // Does what a message asks. The changes are same where it brings none.
+    fn obey<R: Value>(
+        &mut self,
+        says: Notification<'_>,
+        cells: &mut [Cell<R>],
+        delta: &mut [Change<R>],
+    ) -> Result<Heard, Refusal>
+        requires { ⌜ length (now cells) ≡ cellLimit ⌝ ∗ ⌜ now delta ≡ blankDelta kind ⌝ ∗ ⌜ AllInLine (argumentsIn says) ⌝ }
+        ensures entries { λ _. ⌜ now (self .exit) .entries ≡ hearEffect kind (now (self .entry) .entries) (now (cells .entry)) (effectOf (tagIn (says .entry)) (argumentsIn (says .entry))) .entries ⌝ }
+        ensures cells { λ _. ⌜ now (cells .exit) ≡ hearEffect kind (now (self .entry) .entries) (now (cells .entry)) (effectOf (tagIn (says .entry)) (argumentsIn (says .entry))) .cells ⌝ }
+        ensures changes { λ _. ⌜ now (delta .exit) ≡ hearEffect kind (now (self .entry) .entries) (now (cells .entry)) (effectOf (tagIn (says .entry)) (argumentsIn (says .entry))) .delta ⌝ }
+        ensures answer { λ r. ⌜ r ≡ hearEffect kind (now (self .entry) .entries) (now (cells .entry)) (effectOf (tagIn (says .entry)) (argumentsIn (says .entry))) .answer ⌝ }
+    {
+        match says {
+            Notification::Subok { id, items: _, fields } => {
+                let entry = Entry {
+                    id: id.value,
+                    open: true,
+                    fields: fields.value as usize,
+                };
+                Ok(self.set_entry(id.value, entry, cells))
+            }
+            Notification::Unsub(id) => Ok(self.set_entry(id.value, Entry::CLOSED, cells)),
+            Notification::U { id, item: _, values } => self.update(id.value, values, cells, delta),
+            _ => Ok(Heard::Taken),
+        }
+    }
+
+    // Hears a line, given without its end. The changes then hold what an update brought, otherwise twelve same.
+    pub fn hear<R: Value>(
+        &mut self,
+        line: &[u8],
+        cells: &mut [Cell<R>],
+        delta: &mut [Change<R>],
+    ) -> Result<Heard, Refusal>
+        ensures entries { λ _. ⌜ now (self .exit) .entries ≡ heard kind (now (self .entry) .entries) (now (cells .entry)) (now (delta .entry)) (now (line .entry)) .entries ⌝ }
+        ensures cells { λ _. ⌜ now (cells .exit) ≡ heard kind (now (self .entry) .entries) (now (cells .entry)) (now (delta .entry)) (now (line .entry)) .cells ⌝ }
+        ensures changes { λ _. ⌜ now (delta .exit) ≡ heard kind (now (self .entry) .entries) (now (cells .entry)) (now (delta .entry)) (now (line .entry)) .delta ⌝ }
+        ensures answer { λ r. ⌜ r ≡ heard kind (now (self .entry) .entries) (now (cells .entry)) (now (delta .entry)) (now (line .entry)) .answer ⌝ }
+    {
+        if cells.len() != CELL_LIMIT || delta.len() != FIELD_LIMIT {
+            return Err(Refusal::MEMORY);
+        }
+        blank(delta);
+        match read_line(line) {
+            Ok(line) => self.obey(line.says, cells, delta),
+            Err(refusal) => Err(refusal),
+        }
     }
 }
