@@ -50,10 +50,10 @@ every-from-more p xs n i x h read e f =
     ap (λ l. every p (drop n l)) (take-more xs i 0 h)
     ∙ ⊎-elim
     (λ below.
-        ap (every p) (drop-all n (take i xs ++ getD xs i 0 ∷ []) (let l = length-append (take i xs) (getD xs i 0 ∷ []) in omega arith)))
+    ap (every p) (drop-all n (take i xs ++ getD xs i 0 ∷ []) (let l = length-append (take i xs) (getD xs i 0 ∷ []) in omega arith)))
     (λ above.
-        ap (every p) (drop-append-le n (take i xs) (getD xs i 0 ∷ []) (omega arith))
-        ∙ every-append p (drop n (take i xs)) (getD xs i 0 ∷ []) e (and-from _ true (ap p (sym read) ∙ f above) refl))
+    ap (every p) (drop-append-le n (take i xs) (getD xs i 0 ∷ []) (omega arith))
+    ∙ every-append p (drop n (take i xs)) (getD xs i 0 ∷ []) e (and-from _ true (ap p (sym read) ∙ f above) refl))
     (cases-lt i n)
 
 pub all-bytes : (t : List ℕ) → every isByte t ≡ true → All (λ b. b < 256) t
@@ -155,8 +155,7 @@ text-written r s e long =
     let small = leb-true (s .len) 32 (parts .0) in
     let zeros = and-parts (every isByte (s .bytes)) (every isZero (drop (s .len) (s .bytes))) (parts .1) .1 in
     let there : length (s .bytes) ≡ 32 = ap (λ t. length (t .bytes)) (sym (h .1)) ∙ long in
-    let is : textOf s ≡ take (s .len) (s .bytes) = cond-true (textSound s) (take (s .len) (s .bytes)) [] (h .0) in
-    (
+    let is : textOf s ≡ take (s .len) (s .bytes) = cond-true (textSound s) (take (s .len) (s .bytes)) [] (h .0) in (
       ap (λ t. t .len) (h .1) ∙ sym (length-take-le (s .len) (s .bytes) (omega arith)) ∙ ap length (sym is),
       ap (λ t. t .bytes) (h .1) ∙ padded-front (s .len) 32 (s .bytes) small there zeros ∙ ap (padded 32) (sym is),
     )

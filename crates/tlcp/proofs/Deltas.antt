@@ -25,7 +25,7 @@ use Rattle.tlcp.specs.Lists.{Allowed, readList, runValues, textValue, writtenV
 use Rattle.tlcp.specs.Written.{Appended, fieldRoom, eachPiped, valuesOf, changesOf}
 use Rattle.tlcp.proofs.Appending.{appended-same, appended-then}
 use Rattle.tlcp.proofs.Numerals.{reads-decimal}
-use Rattle.tlcp.proofs.WrittenLists.{short-run, length-text, reads-written}
+use Rattle.tlcp.proofs.WrittenLists.{short-run, length-text, reads-written, written-short}
 
 piped-append : (vs ws : List (List ℕ)) → eachPiped (vs ++ ws) ≡ eachPiped vs ++ eachPiped ws
 piped-append [] ws = refl
@@ -157,3 +157,10 @@ module _ {R : Type 0} (k : Kind R) where
         let d = changesOf k delta fields in
         subst (λ n. readList (k .allowed) n (writtenList d) ≡ Ok d) length-changes
         (reads-written reads-decimal (k .allowed) (law .bytes) d (omega (arith, length-changes)) (omega (arith, length-changes)) (all-allowed law (take fields delta)))
+
+    -- a row's list fits a buffer of `LIST_LIMIT` bytes
+    pub list-short : Lawful k → 1 ≤ fields → length (writtenList (changesOf k delta fields)) + 1 ≤ fieldRoom * fieldLimit
+    list-short law some =
+        let d = changesOf k delta fields in
+        let h = written-short (k .allowed) (law .short) d (omega (arith, length-changes)) (omega (arith, length-changes)) (all-allowed law (take fields delta)) in
+        omega (arith, h, length-changes)

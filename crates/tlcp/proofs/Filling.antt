@@ -37,10 +37,13 @@ values-split (x ∷ s) = by (eqb x 124) refl (values-split s)
   where
     n : ℕ
     n = placeOf 124 s
+
     tail : ℕ → Option (List ℕ)
     tail m = cond (ltb m (suc (length s))) (Some (drop (m + 1) (x ∷ s))) None
+
     split : ℕ → List (List ℕ)
     split m = take m (x ∷ s) ∷ valuesOf (tail m)
+
     by : (t : Bool) → eqb x 124 ≡ t → values s ≡ before 124 s ∷ valuesOf (behind 124 s) → values (x ∷ s) ≡ split (placeOf 124 (x ∷ s))
     by true f ih =
         cond-true (eqb x 124) _ _ f

@@ -32,16 +32,14 @@ cut-here b s e is h =
     let rest = take-rest s (e + 1) in
     let front = ap (λ n. take n s) same in
     let l = ap length front ∙ length-take-le e s (omega arith) in
-    let m = ap length rest ∙ length-drop (e + 1) s in
-    (
+    let m = ap length rest ∙ length-drop (e + 1) s in (
       front ∙ ap (λ n. take n s) is,
       ap Some rest ∙ ap (λ n. Some (drop (n + 1) s)) is ∙ sym (cond-true (ltb (placeOf b s) (length s)) _ None (lt-ltb (placeOf b s) (length s) (omega arith))),
       omega arith,
     )
 
 pub cut-nowhere : (b : ℕ) (s : List ℕ) (e : ℕ) → e ≡ placeOf b s → length s ≤ e → (s ≡ before b s) × (None ≡ behind b s)
-cut-nowhere b s e is h =
-    (
-      sym (take-all (placeOf b s) s (omega arith)),
-      sym (cond-false (ltb (placeOf b s) (length s)) _ None (le-ltb (placeOf b s) (length s) (omega arith))),
-    )
+cut-nowhere b s e is h = (
+  sym (take-all (placeOf b s) s (omega arith)),
+  sym (cond-false (ltb (placeOf b s) (length s)) _ None (le-ltb (placeOf b s) (length s) (omega arith))),
+)

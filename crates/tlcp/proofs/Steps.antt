@@ -83,13 +83,13 @@ unit-shorter (b ∷ s) u e =
     let plain : Option (ℕ × List ℕ) = Some (b, s) in
     ⊎-elim
     (λ f.
-        ⊎-elim
-        (λ k.
-            let len : length (drop 3 (b ∷ s)) ≡ length (u .1) = ap (λ v. length (v .1)) (some-inj {x = (byte, drop 3 (b ∷ s))} k) in
-            let cut = length-drop 3 (b ∷ s) in
-            omega arith)
-        (λ k. absurd (never k))
-        (pick hex escape None f))
+    ⊎-elim
+    (λ k.
+    let len : length (drop 3 (b ∷ s)) ≡ length (u .1) = ap (λ v. length (v .1)) (some-inj {x = (byte, drop 3 (b ∷ s))} k) in
+    let cut = length-drop 3 (b ∷ s) in
+    omega arith)
+    (λ k. absurd (never k))
+    (pick hex escape None f))
     (λ f. let len : length s ≡ length (u .1) = ap (λ v. length (v .1)) (some-inj {x = (b, s)} f) in omega arith)
     (pick (eqb b 37) (cond hex escape None) plain (sym (cond-false (eqb (length (b ∷ s)) 0) None _ (ne-eqb (length (b ∷ s)) 0 (λ z. omega arith))) ∙ e))
 

@@ -43,8 +43,8 @@ abbrev pub unitOf : List ℕ → Option (ℕ × List ℕ)
 unitOf s =
     cond (eqb (length s) 0) None
     (cond (eqb (getD s 0 0) 37)
-      (cond (leb 3 (length s) && (isHex (getD s 1 0) && isHex (getD s 2 0))) (Some (16 * hexValue (getD s 1 0) + hexValue (getD s 2 0), drop 3 s)) None)
-      (Some (getD s 0 0, drop 1 s)))
+    (cond (leb 3 (length s) && (isHex (getD s 1 0) && isHex (getD s 2 0))) (Some (16 * hexValue (getD s 1 0) + hexValue (getD s 2 0), drop 3 s)) None)
+    (Some (getD s 0 0, drop 1 s)))
 
 -- how many bytes there are, or the place of the fault
 abbrev pub countOr : ℕ → Option ℕ → Result ℕ ℕ

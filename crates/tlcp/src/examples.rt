@@ -4,5 +4,4 @@ ghost use Rattle.tlcp.specs.Examples.{Examples};
 // Nothing to run: the contract is the table.
 pub fn worked_examples()
     ensures { λ _. ⌜ Examples ⌝ }
-{
-}
+{}

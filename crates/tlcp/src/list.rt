@@ -11,6 +11,10 @@ ghost use Rattle.row.specs.Limits.{fieldLimit};
 ghost use Rattle.row.specs.Records.{memoryRefusal};
 ghost use Rattle.tlcp.specs.Held.{meantOr, heldDelta, answerOf, countOf, placed};
 ghost use Rattle.tlcp.specs.Lists.{uncovered, values, readContent, readValue, readValues, readList, ReadsSpelled};
+use crate::escape::decode;
+use crate::number::read_number;
+use crate::part::split;
+use crate::spelled::Spelled;
 use row::Change;
 use row::FIELD_LIMIT;
 use row::Fault;
@@ -19,10 +23,6 @@ use row::Refusal;
 use row::TEXT_LIMIT;
 use row::Value;
 use row::blank;
-use crate::escape::decode;
-use crate::number::read_number;
-use crate::part::split;
-use crate::spelled::Spelled;
 
 const UNCOVERED: Refusal = Refusal {
     fault: Fault::Cover,
@@ -82,7 +82,12 @@ fn read_value<R: Value>(value: &[u8]) -> Result<Spelled<R>, Refusal>
 
 // Takes what a value says of the fields from `covered` on. Answers how many are covered then, or nothing
 // where the value runs past the row.
-fn place<R: Value>(said: Spelled<R>, covered: usize, fields: usize, delta: &mut [Change<R>]) -> Option<usize>
+fn place<R: Value>(
+    said: Spelled<R>,
+    covered: usize,
+    fields: usize,
+    delta: &mut [Change<R>],
+) -> Option<usize>
     requires { ⌜ covered < fields ⌝ ∗ ⌜ fields ≤ length (now delta) ⌝ }
     ensures answer { λ r. ⌜ r ≡ cond (leb (countOf said) (fields - covered)) (Some (covered + countOf said)) None ⌝ }
     ensures changes { λ _. ⌜ now (delta .exit) ≡ placed said covered (now (delta .entry)) ⌝ }
@@ -127,7 +132,11 @@ fn read_values<R: Value>(list: &[u8], fields: usize, delta: &mut [Change<R>]) ->
         };
         covered = more;
         let Some(rest) = rest else {
-            return if covered == fields { Ok(()) } else { Err(UNCOVERED) };
+            return if covered == fields {
+                Ok(())
+            } else {
+                Err(UNCOVERED)
+            };
         };
         left = rest;
     }
@@ -136,7 +145,11 @@ fn read_values<R: Value>(list: &[u8], fields: usize, delta: &mut [Change<R>]) ->
 
 // Reads a list for a row of so many fields. The delta's twelve places then hold what the list says, with same
 // behind the fields, or where it is refused twelve same.
-pub fn read_list<R: Value>(list: &[u8], fields: usize, delta: &mut [Change<R>]) -> Result<(), Refusal>
+pub fn read_list<R: Value>(
+    list: &[u8],
+    fields: usize,
+    delta: &mut [Change<R>],
+) -> Result<(), Refusal>
     ensures answer { λ r. ⌜ r ≡ cond (eqb (length (now (delta .entry))) fieldLimit) (answerOf (readList (kind .allowed) fields (now (list .entry)))) (Err memoryRefusal) ⌝ }
     ensures changes { λ _. ⌜ now (delta .exit) ≡ cond (eqb (length (now (delta .entry))) fieldLimit) (heldDelta kind (readList (kind .allowed) fields (now (list .entry)))) (now (delta .entry)) ⌝ }
     ensures within { λ r. ⌜ Cases r (λ _. Unit {0}) (λ e. e .place ≤ length (now (list .entry))) ⌝ }

@@ -2,11 +2,9 @@
 use mathlib.Core.Bool.{Bool, true, false, cond, not, _&&_, _||_}
 use mathlib.Core.List.{List, [], _∷_}
 use Prim.Native.Nat.{ℕ, _+_}
-use lib.Dec.{eqb, ltb}
-use lib.ListN.{getD}
+use lib.Dec.{eqb}
 use Rattle.std.specs.declared.option.Option.{Option}
 use Rattle.std.specs.declared.option.Option.the-variants.{Some, None}
-use Rattle.viewer.specs.Limits.{tapLimit}
 use Rattle.viewer.specs.declared.entry.Entry.{Entry}
 use Rattle.viewer.specs.declared.entry.Wanted.{Wanted}
 use Rattle.viewer.specs.declared.entry.Wanted.the-variants.{Any, Open}
@@ -34,6 +32,3 @@ closed = record { id = 0; «open» = false; fields = 0 }
 -- an entry that holds an ID, closed
 abbrev pub waiting : ℕ → Entry
 waiting id = record { id = id; «open» = false; fields = 0 }
-
-abbrev pub entryAt : List Entry → ℕ → Option Entry
-entryAt es i = cond (ltb i tapLimit) (Some (getD es i closed)) None

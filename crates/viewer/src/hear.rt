@@ -5,10 +5,17 @@ ghost use lib.ListN.{length};
 ghost use mathlib.Core.List.{map};
 ghost use Rattle.std.specs.declared.result.Result.the-variants.{Ok};
 ghost use Rattle.tlcp.specs.Said.{AllInLine, InLine, argumentsIn, pieceIn, tagIn};
-ghost use Rattle.viewer.specs.Entries.{waiting, entryAt, findEntry};
+ghost use Rattle.viewer.specs.Entries.{waiting, findEntry};
 ghost use Rattle.viewer.specs.Hearing.{blankDelta, effectOf, setEntry, update, hearEffect, heard};
-ghost use Rattle.viewer.specs.Limits.{cellLimit};
+ghost use Rattle.viewer.specs.Limits.{tapLimit, cellLimit};
 ghost use Rattle.viewer.specs.declared.entry.Wanted.the-variants.{Any, Open};
+use crate::entry::Entry;
+use crate::entry::TAP_LIMIT;
+use crate::entry::Wanted;
+use crate::entry::find_entry;
+use crate::rows::CELL_LIMIT;
+use crate::rows::clear_row;
+use crate::rows::update_row;
 use row::Cell;
 use row::Change;
 use row::FIELD_LIMIT;
@@ -19,13 +26,6 @@ use tlcp::Notification;
 use tlcp::Part;
 use tlcp::read_line;
 use tlcp::read_list;
-use crate::entry::Entry;
-use crate::entry::TAP_LIMIT;
-use crate::entry::Wanted;
-use crate::entry::find_entry;
-use crate::rows::CELL_LIMIT;
-use crate::rows::clear_row;
-use crate::rows::update_row;
 
 // What came of a line that was accepted.
 #[derive(Clone, Copy, PartialEq, Debug)]
@@ -56,15 +56,12 @@ impl Viewer {
         Viewer { entries }
     }
 
-    // The entry of the tap with an index, if there is one.
-    pub fn entry(&self, i: usize) -> Option<Entry>
-        ensures { λ r. ⌜ r ≡ entryAt (now (self .entry) .entries) i ⌝ }
+    // The entries, one for each tap.
+    pub fn entries(&self) -> &[Entry]
+        ensures value { λ r. ⌜ now r ≡ now (self .entry) .entries ⌝ }
+        ensures len { λ r. ⌜ length (now r) ≡ tapLimit ⌝ }
     {
-        if i < TAP_LIMIT {
-            Some(self.entries[i])
-        } else {
-            None
-        }
+        &self.entries
     }
 
     // Sets the entry with an ID anew, open or not, and makes its cells null.
@@ -125,7 +122,11 @@ impl Viewer {
         ensures answer { λ r. ⌜ r ≡ hearEffect kind (now (self .entry) .entries) (now (cells .entry)) (effectOf (tagIn (says .entry)) (argumentsIn (says .entry))) .answer ⌝ }
     {
         match says {
-            Notification::Subok { id, items: _, fields } => {
+            Notification::Subok {
+                id,
+                items: _,
+                fields,
+            } => {
                 let entry = Entry {
                     id: id.value,
                     open: true,
@@ -134,7 +135,11 @@ impl Viewer {
                 Ok(self.set_entry(id.value, entry, cells))
             }
             Notification::Unsub(id) => Ok(self.set_entry(id.value, Entry::CLOSED, cells)),
-            Notification::U { id, item: _, values } => self.update(id.value, values, cells, delta),
+            Notification::U {
+                id,
+                item: _,
+                values,
+            } => self.update(id.value, values, cells, delta),
             _ => Ok(Heard::Taken),
         }
     }

@@ -5,6 +5,6 @@ mod rows;
 
 pub use entry::Entry;
 pub use entry::TAP_LIMIT;
-pub use rows::CELL_LIMIT;
 pub use hear::Heard;
 pub use hear::Viewer;
+pub use rows::CELL_LIMIT;

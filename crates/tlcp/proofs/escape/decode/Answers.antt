@@ -50,15 +50,14 @@ loop-left-again c =
     let out = c .args .out .now in
     let kept = c .loop-left .kept .out in
     let held : c .if-n-out .out ≡ overlaid (t ++ b ∷ []) out =
-            elim (c .if-n-out .came) [
-              then-n-out w ↦
-                let room : length t < length out = omega (arith, w .if-n-out .taken) in
-                w .out-is ∙ (λ i. set (c .loop-left .inv .3 i) (size i) b) ∙ overlaid-more t out b room
-            | else-n-out w ↦
-                let full : length out ≤ length t = omega (arith, w .if-n-out .left) in
-                w .out-is ∙ c .loop-left .inv .3 ∙ overlaid-full t out b full
-            ] in
-    (
+    elim (c .if-n-out .came) [
+      | then-n-out w ↦
+          let room : length t < length out = omega (arith, w .if-n-out .taken) in
+          w .out-is ∙ (λ i. set (c .loop-left .inv .3 i) (size i) b) ∙ overlaid-more t out b room
+      | else-n-out w ↦
+          let full : length out ≤ length t = omega (arith, w .if-n-out .left) in
+          w .out-is ∙ c .loop-left .inv .3 ∙ overlaid-full t out b full
+    ] in (
       t ++ b ∷ [],
       omega arith,
       omega arith,

@@ -75,11 +75,10 @@ pub loop-covered-again : need.loop-covered-again
 loop-covered-again g c =
     let sizes : length (c .split .result .0 .now) + (length (c .in-Some-rest .rest .now) + 1) ≡ length (c .loop-covered .left .now) = subst (λ o. Cases o (length (c .split .result .0 .now) ≡ length (c .loop-covered .left .now)) (λ t. length (c .split .result .0 .now) + (length (t .now) + 1) ≡ length (c .loop-covered .left .now))) (c .in-Some-rest .is) (c .split .ensures .sizes) in
     let shorter = c .loop-covered .inv .0 in
-    let at : length (c .args .list .now) - length (c .loop-covered .left .now) + length (c .split .result .0 .now) + 1 ≡ length (c .args .list .now) - length (c .in-Some-rest .rest .now) = omega arith in
-    (
+    let at : length (c .args .list .now) - length (c .loop-covered .left .now) + length (c .split .result .0 .now) + 1 ≡ length (c .args .list .now) - length (c .in-Some-rest .rest .now) = omega arith in (
       omega arith,
       subst (λ n. Sofar (g .R·Value .kind) (c .args .fields) (c .args .list .now) (c .place .last .delta) (c .in-Some .more) n (values (c .in-Some-rest .rest .now))) at
-      (subst (λ o. Sofar (g .R·Value .kind) (c .args .fields) (c .args .list .now) (c .place .last .delta) (c .in-Some .more) (length (c .args .list .now) - length (c .loop-covered .left .now) + length (c .split .result .0 .now) + 1) (valuesOf (mapped (λ r. r .now) o))) (c .in-Some-rest .is) (taken g (need.at·loop-covered-again g c .In-Some))),
+          (subst (λ o. Sofar (g .R·Value .kind) (c .args .fields) (c .args .list .now) (c .place .last .delta) (c .in-Some .more) (length (c .args .list .now) - length (c .loop-covered .left .now) + length (c .split .result .0 .now) + 1) (valuesOf (mapped (λ r. r .now) o))) (c .in-Some-rest .is) (taken g (need.at·loop-covered-again g c .In-Some))),
     )
 
 pub returns : need.returns

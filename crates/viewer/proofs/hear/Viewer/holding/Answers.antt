@@ -6,11 +6,10 @@ use Rattle.viewer.specs.Entries.{waiting}
 use Rattle.viewer.proofs.hear.Viewer.holding.Needs as need
 
 pub loop-i-again : need.loop-i-again
-loop-i-again c =
-    (
-      length-set (c .loop-i .entries) (c .loop-i .i) _ ∙ c .loop-i .inv .0,
-      copy-step waiting (c .args .ids) (c .loop-i .entries) (c .loop-i .i) _ (omega arith) (omega (arith, c .loop-i .inv .0)) (getD-default (c .args .ids) (c .loop-i .i) 0 _ (omega arith)) (c .loop-i .inv .1),
-    )
+loop-i-again c = (
+  length-set (c .loop-i .entries) (c .loop-i .i) _ ∙ c .loop-i .inv .0,
+  copy-step waiting (c .args .ids) (c .loop-i .entries) (c .loop-i .i) _ (omega arith) (omega (arith, c .loop-i .inv .0)) (getD-default (c .args .ids) (c .loop-i .i) 0 _ (omega arith)) (c .loop-i .inv .1),
+)
 
 pub returns : need.returns
 returns c = copy-all waiting (c .args .ids) (c .loop-i .entries) (c .loop-i .i) (omega arith) (omega (arith, c .loop-i .inv .0)) (c .loop-i .inv .1)

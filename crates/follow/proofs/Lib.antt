@@ -1,0 +1,3 @@
+pub mod Pushed
+pub mod Fed
+pub mod RowLists
