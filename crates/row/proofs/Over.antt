@@ -5,11 +5,11 @@ use mathlib.Core.List.{List, [], _∷_, _++_, map, append-assoc, append-nil}
 use Prim.Native.Nat.{ℕ, _+_, _<_, _≤_}
 use native.Mathlib.Omega.{arith}
 use lib.ListN.{length, getD, set, take, drop, replicate}
-use Rattle.std.proofs.shelf.Lists.{take-more-set, drop-set-lt, drop-more, take-all, drop-all, replicate-more, map-more}
-use Rattle.std.proofs.shelf.Tests.{and-from, eq-eqb}
+use Rattle.std.proofs.shelf.Lists.{take-more-set, drop-set-lt, drop-more, take-all, drop-all, replicate-more, map-more, set-getD, getD-default}
+use Rattle.std.proofs.shelf.Tests.{and-from, eq-eqb, false≢true}
 use Rattle.row.specs.Rows.{over, becomes, null, value, changeCell, joinChange, changed, join}
 use Rattle.row.specs.Kinds.{Kind}
-use Rattle.row.specs.Records.{cellOf, changeOf, takes, later, wholly, rowsFit}
+use Rattle.row.specs.Records.{cellOf, changeOf, isSame, taken, takes, later, wholly, rowsFit}
 use Rattle.row.specs.declared.change.Cell.{Cell}
 use Rattle.row.specs.declared.change.Change.{Change}
 use Rattle.row.specs.declared.change.Mark.{Mark}
@@ -33,6 +33,14 @@ map-over p q f g e (x ∷ xs) [] = refl
 map-over p q f g e (x ∷ xs) (y ∷ ys) = λ i. e x y i ∷ map-over p q f g e xs ys i
 
 module _ {R : Type 0} (k : Kind R) where
+  pub same-leaves : (d : Change R) → isSame (d .mark) ≡ true → (c : Cell R) → takes c d ≡ c
+  same-leaves d e c = by (d .mark) e
+    where
+      by : (m : Mark) → isSame m ≡ true → taken m c (d .raw) ≡ c
+      by Same f = refl
+      by Null f = absurd (false≢true f)
+      by Value f = absurd (false≢true f)
+
   cell-by : (c : Cell R) (m : Mark) (r : R) → cellOf k (takes c (record { mark = m; raw = r })) ≡ changeCell (cellOf k c) (changeOf k (record { mark = m; raw = r }))
   cell-by c Same r = refl
   cell-by c Null r = refl
@@ -48,6 +56,16 @@ module _ {R : Type 0} (k : Kind R) where
 
   pub join-means : (cs ds : List (Change R)) → map (changeOf k) (over later cs ds) ≡ join (map (changeOf k) cs) (map (changeOf k) ds)
   join-means = map-over (changeOf k) (changeOf k) later joinChange (λ c d. later-by c (d .mark) (d .raw))
+
+-- the same where the place need not be written, since f leaves what stands there
+pub over-left : {X Y : Type 0} (f : X → Y → X) (xs : List X) (ys : List Y) (i : ℕ) (y : Y) → i < length xs → i < length ys → y ≡ getD ys i y → ((x : X) → f x y ≡ x) → take (i + 1) xs ++ over f (drop (i + 1) xs) (drop (i + 1) ys) ≡ take i xs ++ over f (drop i xs) (drop i ys)
+over-left f [] ys i y inX inY isY leaves = absurd (omega arith)
+over-left f (d ∷ xs) ys i y inX inY isY leaves =
+    let l = d ∷ xs in
+    let x = getD l i d in
+    let unset : set l i (f x y) ≡ l = ap (set l i) (leaves x) ∙ set-getD l i d in
+    ap (λ k. take (i + 1) k ++ over f (drop (i + 1) k) (drop (i + 1) ys)) (sym unset)
+    ∙ over-more f l ys i x y inX inY (getD-default l i d x inX) isY
 
 pub over-all : {X Y : Type 0} (f : X → Y → X) (xs : List X) (ys : List Y) (i : ℕ) → length xs ≤ i → take i xs ++ over f (drop i xs) ys ≡ xs
 over-all f xs ys i h = (λ j. take-all i xs h j ++ over f (drop-all i xs h j) ys) ∙ append-nil xs

@@ -38,6 +38,11 @@ module _ {R : Type 0} (k : Kind R) where
   abbrev pub nullCell : Cell R
   nullCell = record { null = true; raw = restRecord k }
 
+abbrev pub isSame : Mark → Bool
+isSame Same = true
+isSame Null = false
+isSame Value = false
+
 -- one cell after one change, as records
 abbrev pub taken : {R : Type 0} → Mark → Cell R → R → Cell R
 taken Same c r = c

@@ -3,7 +3,7 @@ ghost use mathlib.Core.Path.{_≡_};
 ghost use mathlib.Core.Bool.{cond, true};
 ghost use mathlib.Core.List.{map};
 ghost use lib.ListN.{length, replicate};
-ghost use Rattle.row.specs.Records.{cellOf, changeOf, held, nullCell, takes, wholly, later, rowsFit, answerIf};
+ghost use Rattle.row.specs.Records.{cellOf, changeOf, held, nullCell, isSame, takes, wholly, later, rowsFit, answerIf};
 ghost use Rattle.row.specs.Rows.{same, becomes, over, changed, join};
 use crate::fault::Refusal;
 use crate::value::Value;
@@ -65,6 +65,15 @@ impl<R: Copy> Cell<R> {
 }
 
 impl<R: Copy> Change<R> {
+    pub fn is_same(&self) -> bool
+        ensures { λ r. ⌜ r ≡ isSame (now (self .entry) .mark) ⌝ }
+    {
+        match self.mark {
+            Mark::Same => true,
+            Mark::Null | Mark::Value => false,
+        }
+    }
+
     // The change that stands for this one and then another.
     pub fn then(self, next: Change<R>) -> Change<R>
         ensures { λ r. ⌜ r ≡ later self next ⌝ }
@@ -116,7 +125,10 @@ pub fn change_row<R: Value>(row: &mut [Cell<R>], delta: &[Change<R>]) -> Result<
         return Err(Refusal::MEMORY);
     }
     for i in 0..FIELD_LIMIT {
-        row[i] = row[i].changed_by(delta[i]);
+        // most changes are same, and a cell is long
+        if !delta[i].is_same() {
+            row[i] = row[i].changed_by(delta[i]);
+        }
     }
     Ok(())
 }

@@ -10,9 +10,10 @@ ghost use Rattle.std.specs.declared.result.Result.the-variants.{Ok, Err};
 ghost use Rattle.row.specs.Limits.{fieldLimit};
 ghost use Rattle.row.specs.Records.{memoryRefusal};
 ghost use Rattle.tlcp.specs.Held.{meantOr, heldDelta, answerOf, countOf, placed};
-ghost use Rattle.tlcp.specs.Lists.{uncovered, values, readContent, readValue, readValues, readList, ReadsSpelled};
+ghost use Rattle.tlcp.specs.Lists.{uncovered, values, readText, readContent, readValue, readValues, readList, ReadsSpelled};
 use crate::escape::decode;
 use crate::number::read_number;
+use crate::part::find;
 use crate::part::split;
 use crate::spelled::Spelled;
 use row::Change;
@@ -29,27 +30,39 @@ const UNCOVERED: Refusal = Refusal {
     place: 0,
 };
 
+// A text in the place of a value.
+fn read_text<R: Value>(text: &[u8]) -> Result<Spelled<R>, Refusal>
+    ensures answer { λ r. ⌜ r ≡ meantOr kind (readText (kind .allowed) (now (text .entry))) ⌝ }
+    ensures within { λ r. ⌜ Cases r (λ _. Unit {0}) (λ e. e .place ≡ 0) ⌝ }
+{
+    match R::read(text) {
+        Some(raw) => Ok(Spelled::One(Change {
+            mark: Mark::Value,
+            raw,
+        })),
+        None => Err(Refusal {
+            fault: Fault::Value,
+            place: 0,
+        }),
+    }
+}
+
 // A value that is neither empty nor one of the marks.
 fn read_content<R: Value>(value: &[u8]) -> Result<Spelled<R>, Refusal>
     ensures answer { λ r. ⌜ r ≡ meantOr kind (readContent (kind .allowed) (now (value .entry))) ⌝ }
     ensures within { λ r. ⌜ Cases r (λ _. Unit {0}) (λ e. e .place ≤ length (now (value .entry))) ⌝ }
 {
+    // most values have no escape, and need no buffer
+    if find(value, b'%') == value.len() {
+        return read_text(value);
+    }
     let mut text = [0u8; TEXT_LIMIT];
     match decode(value, &mut text) {
         Err(place) => Err(Refusal {
             fault: Fault::Escape,
             place,
         }),
-        Ok(n) if n <= TEXT_LIMIT => match R::read(&text[0..n]) {
-            Some(raw) => Ok(Spelled::One(Change {
-                mark: Mark::Value,
-                raw,
-            })),
-            None => Err(Refusal {
-                fault: Fault::Value,
-                place: 0,
-            }),
-        },
+        Ok(n) if n <= TEXT_LIMIT => read_text(&text[0..n]),
         Ok(_) => Err(Refusal {
             fault: Fault::Value,
             place: 0,
@@ -75,7 +88,7 @@ fn read_value<R: Value>(value: &[u8]) -> Result<Spelled<R>, Refusal>
             mark: Mark::Null,
             raw: R::rest(),
         })),
-        [b'$'] => read_content(b""),
+        [b'$'] => read_text(b""),
         _ => read_content(value),
     }
 }

@@ -1,17 +1,20 @@
+use mathlib.Core.Path.{ap, _∙_}
 use native.Mathlib.Omega.{arith}
-use lib.ListN.{replicate}
-use Rattle.std.specs.declared.option.Option.the-variants.{Some, None}
-use Rattle.tlcp.proofs.Contents.{content-read}
+use borrow.Author.Needs.{needs}
+use lib.ListN.{length, replicate}
+use Rattle.std.proofs.shelf.Results.{cases-weaker}
+use Rattle.tlcp.specs.Held.{meantOr}
+use Rattle.tlcp.proofs.Contents.{decoded-read, plain-read}
 use Rattle.tlcp.proofs.list.read_content.Needs as need
 
-pub returns-in-Some : need.returns-in-Some
-returns-in-Some g c = record {
-  answer = content-read (g .R·Value .kind) (c .args .value .now) (c .in-Ok .n) (replicate 32 0) _ (c .in-Ok .ensures tt .answer) (c .in-Ok .ensures tt .bytes) (omega arith) (Some (c .in-Some .raw)) (c .in-Some .ensures tt);
-  within = tt;
+pub returns-then-find-value : need.returns-then-find-value
+returns-then-find-value g c = record {
+  answer = c .read-text .ensures .answer ∙ ap (meantOr (g .R·Value .kind)) (plain-read (g .R·Value .kind .allowed) (c .args .value .now) (c .find .result) (c .find .ensures .value) (c .if-find-value .taken));
+  within = cases-weaker (c .read-text .result) (c .read-text .ensures .within) (λ x h. tt) (λ y h. omega arith);
 }
 
-pub returns-in-None : need.returns-in-None
-returns-in-None g c = record {
-  answer = content-read (g .R·Value .kind) (c .args .value .now) (c .in-Ok .n) (replicate 32 0) _ (c .in-Ok .ensures tt .answer) (c .in-Ok .ensures tt .bytes) (omega arith) None (c .in-None .ensures tt);
-  within = omega arith;
+pub returns-in-Ok : need.returns-in-Ok
+returns-in-Ok g c = record {
+  answer = c .read-text-in-Ok .ensures .answer ∙ ap (meantOr (g .R·Value .kind)) (decoded-read (g .R·Value .kind .allowed) (c .args .value .now) (c .in-Ok .n) (replicate 32 0) (c .decode .last .out) (c .in-Ok .ensures tt .answer) (c .in-Ok .ensures tt .bytes) (omega arith));
+  within = cases-weaker (c .read-text-in-Ok .result) (c .read-text-in-Ok .ensures .within) (λ x h. tt) (λ y h. omega arith);
 }
