@@ -17,8 +17,8 @@ loop-i-again g c =
     let delta = c .args .delta .now in
     let goes : List (Cell (g .R .Denot)) → List (Cell (g .R .Denot)) = λ row. take (i + 1) row ++ over takes (drop (i + 1) row) (drop (i + 1) delta) in
     elim (c .if-not-is-same .came) [
-      then-not-is-same w ↦ ap goes (w .row-is ∙ ap (set (c .loop-i .row) i) (w .changed-by .ensures)) ∙ over-more takes (c .loop-i .row) delta i _ _ (omega arith) (omega arith) (w .index-row-i .is) (w .index-delta-i-then-not-is-same .is) ∙ c .loop-i .inv
-    | else-not-is-same w ↦ ap goes (w .row-is) ∙ over-left takes (c .loop-i .row) delta i _ (omega arith) (omega arith) (c .index-delta-i .is) (same-leaves (g .R·Value .kind) (c .index-delta-i .result) (sym (w .if-not-is-same .ensures tt))) ∙ c .loop-i .inv
+      | then-not-is-same w ↦ ap goes (w .row-is ∙ ap (set (c .loop-i .row) i) (w .changed-by .ensures)) ∙ over-more takes (c .loop-i .row) delta i _ _ (omega arith) (omega arith) (w .index-row-i .is) (w .index-delta-i-then-not-is-same .is) ∙ c .loop-i .inv
+      | else-not-is-same w ↦ ap goes (w .row-is) ∙ over-left takes (c .loop-i .row) delta i _ (omega arith) (omega arith) (c .index-delta-i .is) (same-leaves (g .R·Value .kind) (c .index-delta-i .result) (sym (w .if-not-is-same .ensures tt))) ∙ c .loop-i .inv
     ]
 
 pub returns : need.returns
