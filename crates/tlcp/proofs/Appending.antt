@@ -19,8 +19,8 @@ use Rattle.row.specs.declared.change.Change.{Change}
 use Rattle.row.specs.declared.change.Mark.the-variants.{Value}
 use Rattle.tlcp.specs.Bytes.{isEscaped, isEscapedFirst}
 use Rattle.tlcp.specs.Escapes.{spelled, encodeRest}
-use Rattle.tlcp.specs.Lists.{runValues, textValue}
-use Rattle.tlcp.specs.Written.{Appended, fieldRoom, eachPiped, valuesOf}
+use Rattle.tlcp.specs.Lists.{eachPiped, runValues, textValue}
+use Rattle.tlcp.specs.Written.{Appended, fieldRoom, valuesOf}
 
 pub appended-same : {n r : ℕ} {xs ys t u : List ℕ} → t ≡ u → Appended n xs t r ys → Appended n xs u r ys
 appended-same {n} {r} {xs} {ys} e h = subst (λ s. Appended n xs s r ys) e h

@@ -21,8 +21,8 @@ use Rattle.row.specs.Rows.{same, becomes, null, value}
 use Rattle.row.specs.declared.change.Change.{Change}
 use Rattle.row.specs.declared.change.Mark.{Mark}
 use Rattle.row.specs.declared.change.Mark.the-variants.{Same, Null, Value}
-use Rattle.tlcp.specs.Lists.{Allowed, readList, runValues, textValue, writtenValues, writtenList}
-use Rattle.tlcp.specs.Written.{Appended, fieldRoom, eachPiped, valuesOf, changesOf}
+use Rattle.tlcp.specs.Lists.{eachPiped, Allowed, readList, runValues, textValue, writtenValues, writtenList}
+use Rattle.tlcp.specs.Written.{Appended, fieldRoom, valuesOf, changesOf}
 use Rattle.tlcp.proofs.Appending.{appended-same, appended-then}
 use Rattle.tlcp.proofs.Numerals.{reads-decimal}
 use Rattle.tlcp.proofs.WrittenLists.{short-run, length-text, reads-written, written-short}

@@ -14,6 +14,7 @@ use Rattle.std.specs.declared.result.Result.the-variants.{Ok, Err}
 use Rattle.std.proofs.shelf.Lists.{append-nil, length-append, length-replicate, length-push, map-append, map-set, set-at, replicate-append-replicate}
 use Rattle.std.proofs.shelf.Tests.{cond-true, cond-false, ne-eqb, eqb-true, eqb-false, le-leb, lt-leb, lt-ltb, leb-true, leb-false}
 use Rattle.std.proofs.shelf.Ways.{tells}
+use Rattle.row.proofs.Every.{some-from-cond}
 use Rattle.row.specs.Kinds.{Kind}
 use Rattle.row.specs.Records.{held}
 use Rattle.row.specs.Rows.{Change, same}
@@ -121,10 +122,6 @@ module _ {R : Type 0} (k : Kind R) where
       (ap (λ j. set (d ++ replicate j same) (length d) c) k′
       ∙ set-at d same (replicate (12 - length (d ++ c ∷ [])) same) c (length d) refl
       ∙ sym (append-assoc d (c ∷ []) _))
-
-some-from-cond : {X : Type 0} (b : Bool) (x y : X) → Some x ≡ cond b (Some y) None → (b ≡ true) × (x ≡ y)
-some-from-cond true x y e = (refl, cc)
-some-from-cond false x y e = absurd (let z : _≡_ {A = ℕ} 0 1 = cc in omega arith)
 
 none-from-cond : {X : Type 0} (b : Bool) (y : X) → None ≡ cond b (Some y) None → b ≡ false
 none-from-cond true y e = absurd (let z : _≡_ {A = ℕ} 0 1 = cc in omega arith)

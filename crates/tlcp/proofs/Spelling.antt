@@ -18,13 +18,9 @@ use Rattle.row.specs.Limits.{fieldLimit}
 use Rattle.row.specs.Rows.{Change, same, becomes, null, value}
 use Rattle.row.specs.declared.fault.Refusal.{Refusal}
 use Rattle.tlcp.specs.Escapes.{decoded}
-use Rattle.tlcp.specs.Lists.{values, push, hasPipe, NoPipes, piped, Meant, sames, one, isNil, readText, textOr, caretOr, readValue, takeMeant, ahead, readValues, Means, unchanged, run, nothing, empty, content, Row, done, next, ReadsSpelled}
+use Rattle.tlcp.specs.Lists.{eachPiped, values, push, hasPipe, NoPipes, piped, Meant, sames, one, isNil, readText, textOr, caretOr, readValue, takeMeant, ahead, readValues, Means, unchanged, run, nothing, empty, content, Row, done, next, ReadsSpelled}
 use Rattle.tlcp.specs.Numbers.{numberOf, ReadsDecimal}
 use Rattle.tlcp.proofs.Unescaped.{reads-escapes}
-
--- values with a pipe before each
-abbrev pub behindPipes : List (List ℕ) → List ℕ
-behindPipes vs = joined (λ v. 124 ∷ v) vs
 
 -- a value without pipes goes before what begins with an empty value
 values-append : (v s : List ℕ) (vs : List (List ℕ)) → hasPipe v ≡ false → values s ≡ [] ∷ vs → values (v ++ s) ≡ v ∷ vs
@@ -33,13 +29,13 @@ values-append (b ∷ v) s vs e f =
     let h = or-parts (eqb b 124) (hasPipe v) e in
     cond-false (eqb b 124) _ _ (h .0) ∙ ap (push b) (values-append v s vs (h .1) f)
 
-values-behind : (vs : List (List ℕ)) → NoPipes vs → values (behindPipes vs) ≡ [] ∷ vs
+values-behind : (vs : List (List ℕ)) → NoPipes vs → values (eachPiped vs) ≡ [] ∷ vs
 values-behind [] h = refl
-values-behind (v ∷ vs) h = ap (λ ws. [] ∷ ws) (values-append v (behindPipes vs) vs (h .0) (values-behind vs (h .1)))
+values-behind (v ∷ vs) h = ap (λ ws. [] ∷ ws) (values-append v (eachPiped vs) vs (h .0) (values-behind vs (h .1)))
 
 pub values-piped : (vs : List (List ℕ)) → 1 ≤ length vs → NoPipes vs → values (piped vs) ≡ vs
 values-piped [] some h = absurd (omega arith)
-values-piped (v ∷ vs) some h = values-append v (behindPipes vs) vs (h .0) (values-behind vs (h .1))
+values-piped (v ∷ vs) some h = values-append v (eachPiped vs) vs (h .0) (values-behind vs (h .1))
 
 pub values-some : (s : List ℕ) → 1 ≤ length (values s)
 values-some [] = omega arith
@@ -57,7 +53,7 @@ values-apart (b ∷ s) = cond-both (eqb b 124) _ _ NoPipes (λ _. (refl, values-
     pushed other [] h = (or-from (eqb b 124) false other refl, tt)
     pushed other (v ∷ vs) h = (or-from (eqb b 124) (hasPipe v) other (h .0), h .1)
 
-pub behind-piped : (vs : List (List ℕ)) → 1 ≤ length vs → behindPipes vs ≡ 124 ∷ piped vs
+pub behind-piped : (vs : List (List ℕ)) → 1 ≤ length vs → eachPiped vs ≡ 124 ∷ piped vs
 behind-piped [] some = absurd (omega arith)
 behind-piped (v ∷ vs) some = refl
 

@@ -15,10 +15,10 @@ use Rattle.std.proofs.shelf.Ways.{tells}
 use Rattle.row.specs.Limits.{fieldLimit, textLimit}
 use Rattle.row.specs.Rows.{Change, same, becomes, null, value}
 use Rattle.tlcp.specs.Escapes.{Decodes}
-use Rattle.tlcp.specs.Lists.{hasPipe, NoPipes, Means, unchanged, run, nothing, empty, content, Row, done, next, runValues, textValue, writtenValues, writtenList, Allowed, ReadsWritten, WrittenShort}
+use Rattle.tlcp.specs.Lists.{eachPiped, hasPipe, NoPipes, Means, unchanged, run, nothing, empty, content, Row, done, next, runValues, textValue, writtenValues, writtenList, Allowed, ReadsWritten, WrittenShort}
 use Rattle.tlcp.specs.Numbers.{ReadsDecimal}
 use Rattle.tlcp.specs.Written.{fieldRoom}
-use Rattle.tlcp.proofs.Spelling.{behindPipes, reads-spelled}
+use Rattle.tlcp.proofs.Spelling.{reads-spelled}
 use Rattle.tlcp.proofs.Unescaped.{no-pipe-append, no-pipe-encode, decodes-encode, encode-content, length-encode}
 
 -- one more of a run stands before or behind it
@@ -100,17 +100,17 @@ reads-written reads allowed bytes d some few all =
     reads-spelled reads allowed (length d) (writtenList d) d few .1
     (record { parts = writtenValues 0 d; some = row-some allowed (h .means) some; apart = h .apart; whole = refl; means = h .means }) refl
 
-length-behind : (vs ws : List (List ℕ)) → length (behindPipes (vs ++ ws)) ≡ length (behindPipes vs) + length (behindPipes ws)
+length-behind : (vs ws : List (List ℕ)) → length (eachPiped (vs ++ ws)) ≡ length (eachPiped vs) + length (eachPiped ws)
 length-behind [] ws = omega arith
 length-behind (v ∷ vs) ws = simp length-append (omega (arith, length-behind vs ws))
 
-pub short-run : (n : ℕ) → n ≤ fieldLimit → length (behindPipes (runValues n)) ≤ fieldRoom * n
+pub short-run : (n : ℕ) → n ≤ fieldLimit → length (eachPiped (runValues n)) ≤ fieldRoom * n
 short-run n few =
-    cond-both (leb n 3) _ _ (λ vs. length (behindPipes vs) ≤ fieldRoom * n)
+    cond-both (leb n 3) _ _ (λ vs. length (eachPiped vs) ≤ fieldRoom * n)
     (λ _. omega (arith, empties n))
     (λ e. simp length-append (omega (arith, leb-false n 3 e, length-decimal-le-succ n (omega arith))))
   where
-    empties : (k : ℕ) → length (behindPipes (replicate k [])) ≡ k
+    empties : (k : ℕ) → length (eachPiped (replicate k [])) ≡ k
     empties zero = refl
     empties (suc k) = ap suc (empties k)
 
@@ -118,7 +118,7 @@ pub length-text : (t : List ℕ) → length t ≤ textLimit → length (textValu
 length-text [] h = omega arith
 length-text (b ∷ t) h = omega (arith, length-encode (b ∷ t))
 
-short : (allowed : List ℕ → Bool) → ((t : List ℕ) → allowed t ≡ true → length t ≤ textLimit) → (d : List Change) (n : ℕ) → n + length d ≤ fieldLimit → All (Allowed allowed) d → length (behindPipes (writtenValues n d)) ≤ fieldRoom * (n + length d)
+short : (allowed : List ℕ → Bool) → ((t : List ℕ) → allowed t ≡ true → length t ≤ textLimit) → (d : List Change) (n : ℕ) → n + length d ≤ fieldLimit → All (Allowed allowed) d → length (eachPiped (writtenValues n d)) ≤ fieldRoom * (n + length d)
 short allowed small [] n few all = omega (arith, short-run n (omega arith))
 short allowed small (same ∷ d) n few all = omega (arith, short allowed small d (suc n) (omega arith) (all .1))
 short allowed small (becomes null ∷ d) n few all =

@@ -114,9 +114,13 @@ pub data Row (allowed : List ℕ → Bool) : List (List ℕ) → List Change →
   done : Row allowed [] []
   next : {v : List ℕ} {vs : List (List ℕ)} {d e : List Change} → Means allowed v d → Row allowed vs e → Row allowed (v ∷ vs) (d ++ e)
 
+-- values with a pipe before each
+abbrev pub eachPiped : List (List ℕ) → List ℕ
+eachPiped vs = joined (λ v. 124 ∷ v) vs
+
 -- values with pipes between them
 abbrev pub piped : List (List ℕ) → List ℕ
-piped vs = drop 1 (joined (λ v. 124 ∷ v) vs)
+piped vs = drop 1 (eachPiped vs)
 
 abbrev pub hasPipe : List ℕ → Bool
 hasPipe [] = false

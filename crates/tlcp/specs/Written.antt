@@ -5,7 +5,6 @@ use mathlib.Core.List.{List, [], _∷_, _++_, map}
 use Prim.Native.Nat.{ℕ, _+_, _*_, _≤_}
 use lib.Dec.{leb, eqb}
 use lib.ListN.{length, take, drop}
-use Rattle.std.specs.Joined.{joined}
 use Rattle.std.specs.declared.result.Result.{Result}
 use Rattle.std.specs.declared.result.Result.the-variants.{Ok, Err}
 use Rattle.row.specs.Kinds.{Kind}
@@ -45,10 +44,6 @@ pub record Appended (n : ℕ) (xs t : List ℕ) (r : ℕ) (ys : List ℕ) : Type
 -- what a field takes at most: a pipe, and a text whose bytes are all escaped
 abbrev pub fieldRoom : ℕ
 fieldRoom = 3 * textLimit + 1
-
--- values with a pipe before each
-abbrev pub eachPiped : List (List ℕ) → List ℕ
-eachPiped vs = joined (λ v. 124 ∷ v) vs
 
 -- the value of a change, if it has one of its own
 abbrev pub valuesOf : rows.Change → List (List ℕ)

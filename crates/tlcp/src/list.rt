@@ -25,7 +25,8 @@ use row::TEXT_LIMIT;
 use row::Value;
 use row::blank;
 
-const UNCOVERED: Refusal = Refusal {
+// The row is not covered exactly: the whole list is at fault.
+pub(crate) const UNCOVERED: Refusal = Refusal {
     fault: Fault::Cover,
     place: 0,
 };

@@ -7,15 +7,15 @@ ghost use Rattle.row.specs.Limits.{fieldLimit, textLimit};
 ghost use Rattle.row.specs.Records.{changeOf};
 ghost use Rattle.tlcp.specs.Bytes.{inClass};
 ghost use Rattle.tlcp.specs.Escapes.{hexDigit, spelled, encodeRest};
-ghost use Rattle.tlcp.specs.Lists.{runValues, textValue, writtenValues};
-ghost use Rattle.tlcp.specs.Written.{Appended, fieldRoom, eachPiped, valuesOf, listAnswer, listPlaced, ReadBack};
+ghost use Rattle.tlcp.specs.Lists.{eachPiped, runValues, textValue, writtenValues};
+ghost use Rattle.tlcp.specs.Written.{Appended, fieldRoom, valuesOf, listAnswer, listPlaced, ReadBack};
 use crate::class::Class;
 use crate::class::is_of;
+use crate::list::UNCOVERED;
 use crate::write::put;
 use crate::write::write_number;
 use row::Change;
 use row::FIELD_LIMIT;
-use row::Fault;
 use row::Mark;
 use row::Refusal;
 use row::TEXT_LIMIT;
@@ -23,11 +23,6 @@ use row::Value;
 
 // The longest list: for each field a pipe and a text whose bytes are all escaped, and no pipe before the first.
 pub const LIST_LIMIT: usize = (3 * TEXT_LIMIT + 1) * FIELD_LIMIT - 1;
-
-const UNCOVERED: Refusal = Refusal {
-    fault: Fault::Cover,
-    place: 0,
-};
 
 // Writes `bytes` behind the first `n` of the buffer, and answers how many there are then.
 fn append(out: &mut [u8], n: usize, bytes: &[u8]) -> usize
