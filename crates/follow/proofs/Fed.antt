@@ -12,7 +12,7 @@ use Rattle.std.proofs.shelf.Lists.{append-nil, length-append, length-push, take
 use Rattle.std.proofs.shelf.Tests.{cond-true, cond-false, lt-ltb}
 use Rattle.std.proofs.shelf.Ways.{tells}
 use Rattle.tlcp.specs.Parts.{placeOf, before, behind}
-use Rattle.follow.specs.Feeding.{State, Step, kept, keep, bare, heldLimit, hearLine, fed}
+use Rattle.follow.specs.Feeding.{State, Step, kept, keep, heldLimit, ended, fed}
 
 -- a step behind the text t
 abbrev pub after : List ℕ → Step → Step
@@ -20,10 +20,6 @@ after t s = record { state = s .state; text = t ++ s .text }
 
 pub after-after : (t u : List ℕ) (s : Step) → after t (after u s) ≡ after (t ++ u) s
 after-after t u s = ap (λ x. record { state = s .state; text = x }) (sym (append-assoc t u (s .text)))
-
--- the line that is held has ended
-abbrev pub ended : State → Step
-ended st = hearLine st (bare (st .held))
 
 -- what comes of a first line's bytes and of the bytes behind its end, if it ends
 abbrev pub fedBy : State → Option (List ℕ) → Step

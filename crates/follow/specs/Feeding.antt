@@ -64,10 +64,14 @@ heardBy st o = record {
 abbrev pub hearLine : State → List ℕ → Step
 hearLine st line = heardBy st (heard textKind (st .entries) (st .cells) (st .delta) line)
 
+-- the line that is held has ended
+abbrev pub ended : State → Step
+ended st = hearLine st (bare (st .held))
+
 abbrev pub fedByte : State → ℕ → Step
 fedByte st b =
     let more : Step = record { state = keep st (b ∷ []); text = [] } in
-    let line = hearLine st (bare (st .held)) in
+    let line = ended st in
     cond (eqb b 10) line more
 
 abbrev pub fed : State → List ℕ → Step

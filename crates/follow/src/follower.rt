@@ -2,10 +2,10 @@
 ghost use mathlib.Core.Path.{_≡_};
 ghost use mathlib.Core.List.{_++_};
 ghost use Prim.Native.Nat.{_-_};
-ghost use lib.ListN.{length};
+ghost use lib.ListN.{length, take};
 ghost use Rattle.std.specs.Of.Vec.{vec-items};
 ghost use Rattle.std.specs.Vec.{made};
-ghost use Rattle.follow.specs.Feeding.{kept, bare, fresh, hearLine, fed, lastLine, finished};
+ghost use Rattle.follow.specs.Feeding.{heldLimit, kept, keep, bare, fresh, ended, fed, lastLine, finished};
 ghost use Rattle.follow.specs.Followers.{Fed, Heard, stateOf};
 use crate::print::push_line;
 use crate::rows::push_rows;
@@ -45,7 +45,7 @@ pub struct Stream {
 }
 
 // Further bytes of a line that has not ended.
-fn keep(held: &mut Vec<u8>, bytes: &[u8]) -> Result<(), AllocError>
+fn hold(held: &mut Vec<u8>, bytes: &[u8]) -> Result<(), AllocError>
     ensures { λ r. ⌜ made r (λ _. vec-items (now (held .exit)) ≡ kept (vec-items (now (held .entry))) (now (bytes .entry))) ⌝ }
 {
     let room = HELD_LIMIT.saturating_sub(held.len());
@@ -55,6 +55,17 @@ fn keep(held: &mut Vec<u8>, bytes: &[u8]) -> Result<(), AllocError>
         held.extend_from_slice(&bytes[0..room])?;
     }
     Ok(())
+}
+
+// As much of a line as is looked at.
+fn front(line: &[u8]) -> &[u8]
+    ensures { λ r. ⌜ now r ≡ take heldLimit (now (line .entry)) ⌝ }
+{
+    if line.len() <= HELD_LIMIT {
+        line
+    } else {
+        &line[0..HELD_LIMIT]
+    }
 }
 
 // A line without the CR of its end.
@@ -105,10 +116,15 @@ impl Stream {
         }
     }
 
-    // Hears the line that is held, now that its end has come.
-    fn end_line(&mut self, out: &mut Vec<u8>) -> Result<(), AllocError>
-        ensures { λ r. ⌜ made r (λ _. Fed (hearLine (stateOf (now (self .entry))) (bare (vec-items (now (self .entry) .held)))) (now (self .exit)) (vec-items (now (out .entry))) (vec-items (now (out .exit)))) ⌝ }
+    // Hears the line whose last bytes these are. One that came whole need not be held.
+    fn end_line(&mut self, bytes: &[u8], out: &mut Vec<u8>) -> Result<(), AllocError>
+        ensures { λ r. ⌜ made r (λ _. Fed (ended (keep (stateOf (now (self .entry))) (now (bytes .entry)))) (now (self .exit)) (vec-items (now (out .entry))) (vec-items (now (out .exit)))) ⌝ }
     {
+        if self.held.len() == 0 {
+            self.follower.hear(without_cr(front(bytes)), out)?;
+            return Ok(());
+        }
+        hold(&mut self.held, bytes)?;
         let line = without_cr(&self.held);
         self.follower.hear(line, out)?;
         self.held.clear();
@@ -122,11 +138,11 @@ impl Stream {
         let mut left = block;
         loop {
             let (line, rest) = split(left, b'\n');
-            keep(&mut self.held, line)?;
             let Some(rest) = rest else {
+                hold(&mut self.held, line)?;
                 return Ok(());
             };
-            self.end_line(out)?;
+            self.end_line(line, out)?;
             left = rest;
         }
     }

@@ -79,7 +79,7 @@ fn read_value<R: Value>(value: &[u8]) -> Result<Spelled<R>, Refusal>
     match value {
         [] => Ok(Spelled::Sames(1)),
         [b'^', digits @ ..] => match read_number(digits, 1, FIELD_LIMIT as u32) {
-            Some(n) => Ok(Spelled::Sames(n as usize)),
+            Some(n) => Ok(Spelled::Sames(n as u8)),
             None => Err(Refusal {
                 fault: Fault::Number,
                 place: 0,
@@ -108,8 +108,8 @@ fn place<R: Value>(
 {
     match said {
         Spelled::Sames(n) => {
-            if n <= fields - covered {
-                Some(covered + n)
+            if n as usize <= fields - covered {
+                Some(covered + n as usize)
             } else {
                 None
             }

@@ -5,6 +5,6 @@ use row::ChangeClone;
 #[derive(Clone, Copy)]
 pub enum Spelled<R> {
     // so many fields are same
-    Sames(usize),
+    Sames(u8),
     One(Change<R>),
 }
