@@ -15,7 +15,7 @@ use viewer::Heard;
 const DIGITS: usize = 20;
 
 // Appends a number in decimal.
-pub fn push_number(out: &mut Vec<u8>, n: u64) -> Result<(), AllocError>
+pub(crate) fn push_number(out: &mut Vec<u8>, n: u64) -> Result<(), AllocError>
     ensures { λ r. ⌜ made r (λ _. vec-items (now (out .exit)) ≡ vec-items (now (out .entry)) ++ decimal n) ⌝ }
 {
     let mut digits = [0u8; DIGITS];
@@ -42,7 +42,7 @@ fn push_answer(out: &mut Vec<u8>, answer: Result<Heard, Refusal>) -> Result<(), 
 }
 
 // Appends the answer to the line with a number.
-pub fn push_line(
+pub(crate) fn push_line(
     out: &mut Vec<u8>,
     n: u64,
     answer: Result<Heard, Refusal>,

@@ -57,7 +57,7 @@ fn push_row(out: &mut Vec<u8>, entry: Entry, row: &[Cell<TextRecord>]) -> Result
 }
 
 // Appends the open rows, in the order of the entries.
-pub fn push_rows(
+pub(crate) fn push_rows(
     out: &mut Vec<u8>,
     viewer: &Viewer,
     cells: &[Cell<TextRecord>],

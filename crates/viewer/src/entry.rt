@@ -40,7 +40,7 @@ impl Entry {
 }
 
 // The index of the first entry that fits.
-pub fn find_entry(entries: &[Entry], wanted: Wanted, id: u32) -> Option<usize>
+pub(crate) fn find_entry(entries: &[Entry], wanted: Wanted, id: u32) -> Option<usize>
     ensures value { λ r. ⌜ r ≡ findEntry wanted id (now (entries .entry)) ⌝ }
     ensures within { λ r. ⌜ Cases r (Unit {0}) (λ i. i < length (now (entries .entry))) ⌝ }
 {

@@ -18,7 +18,7 @@ use row::nullify;
 pub const CELL_LIMIT: usize = 96;
 
 // Makes a tap's row null.
-pub fn clear_row<R: Value>(cells: &mut [Cell<R>], i: usize)
+pub(crate) fn clear_row<R: Value>(cells: &mut [Cell<R>], i: usize)
     requires { ⌜ i < tapLimit ⌝ ∗ ⌜ length (now cells) ≡ cellLimit ⌝ }
     ensures { λ _. ⌜ now (cells .exit) ≡ nullRow kind i (now (cells .entry)) ⌝ }
 {
@@ -27,7 +27,7 @@ pub fn clear_row<R: Value>(cells: &mut [Cell<R>], i: usize)
 }
 
 // Changes a tap's row by a delta.
-pub fn update_row<R: Value>(cells: &mut [Cell<R>], i: usize, delta: &[Change<R>])
+pub(crate) fn update_row<R: Value>(cells: &mut [Cell<R>], i: usize, delta: &[Change<R>])
     requires { ⌜ i < tapLimit ⌝ ∗ ⌜ length (now cells) ≡ cellLimit ⌝ ∗ ⌜ length (now delta) ≡ fieldLimit ⌝ }
     ensures { λ _. ⌜ now (cells .exit) ≡ withRow i (over takes (rowAt i (now (cells .entry))) (now (delta .entry))) (now (cells .entry)) ⌝ }
 {
