@@ -4,6 +4,7 @@ ghost use Prim.Native.Nat.{_<_, _≤_, _+_};
 ghost use lib.ListN.{length};
 ghost use mathlib.Core.List.{map};
 ghost use Rattle.std.specs.declared.result.Result.the-variants.{Ok};
+ghost use Rattle.row.specs.Limits.{fieldLimit};
 ghost use Rattle.tlcp.specs.Said.{AllInLine, InLine, argumentsIn, pieceIn, tagIn};
 ghost use Rattle.viewer.specs.Entries.{waiting, findEntry};
 ghost use Rattle.viewer.specs.Hearing.{blankDelta, effectOf, setEntry, update, hearEffect, heard};
@@ -38,6 +39,14 @@ pub enum Heard {
 #[derive(Drop)]
 pub struct Viewer {
     entries: [Entry; TAP_LIMIT],
+}
+
+// No update came.
+fn clear<R: Value>(delta: &mut [Change<R>])
+    requires { ⌜ length (now delta) ≡ fieldLimit ⌝ }
+    ensures { λ _. ⌜ now (delta .exit) ≡ blankDelta kind ⌝ }
+{
+    blank(delta);
 }
 
 impl Viewer {
@@ -87,12 +96,13 @@ impl Viewer {
         cells: &mut [Cell<R>],
         delta: &mut [Change<R>],
     ) -> Result<Heard, Refusal>
-        requires { ⌜ length (now cells) ≡ cellLimit ⌝ ∗ ⌜ now delta ≡ blankDelta kind ⌝ ∗ ⌜ InLine values ⌝ }
+        requires { ⌜ length (now cells) ≡ cellLimit ⌝ ∗ ⌜ length (now delta) ≡ fieldLimit ⌝ ∗ ⌜ InLine values ⌝ }
         ensures cells { λ _. ⌜ now (cells .exit) ≡ update kind (now (self .entry) .entries) (now (cells .entry)) (pieceIn (values .entry)) (findEntry Open id (now (self .entry) .entries)) .cells ⌝ }
         ensures changes { λ _. ⌜ now (delta .exit) ≡ update kind (now (self .entry) .entries) (now (cells .entry)) (pieceIn (values .entry)) (findEntry Open id (now (self .entry) .entries)) .delta ⌝ }
         ensures answer { λ r. ⌜ r ≡ update kind (now (self .entry) .entries) (now (cells .entry)) (pieceIn (values .entry)) (findEntry Open id (now (self .entry) .entries)) .answer ⌝ }
     {
         let Some(i) = find_entry(&self.entries, Wanted::Open, id) else {
+            clear(delta);
             return Ok(Heard::Passed);
         };
         let fields = self.entries[i].fields;
@@ -115,7 +125,7 @@ impl Viewer {
         cells: &mut [Cell<R>],
         delta: &mut [Change<R>],
     ) -> Result<Heard, Refusal>
-        requires { ⌜ length (now cells) ≡ cellLimit ⌝ ∗ ⌜ now delta ≡ blankDelta kind ⌝ ∗ ⌜ AllInLine (argumentsIn says) ⌝ }
+        requires { ⌜ length (now cells) ≡ cellLimit ⌝ ∗ ⌜ length (now delta) ≡ fieldLimit ⌝ ∗ ⌜ AllInLine (argumentsIn says) ⌝ }
         ensures entries { λ _. ⌜ now (self .exit) .entries ≡ hearEffect kind (now (self .entry) .entries) (now (cells .entry)) (effectOf (tagIn (says .entry)) (argumentsIn (says .entry))) .entries ⌝ }
         ensures cells { λ _. ⌜ now (cells .exit) ≡ hearEffect kind (now (self .entry) .entries) (now (cells .entry)) (effectOf (tagIn (says .entry)) (argumentsIn (says .entry))) .cells ⌝ }
         ensures changes { λ _. ⌜ now (delta .exit) ≡ hearEffect kind (now (self .entry) .entries) (now (cells .entry)) (effectOf (tagIn (says .entry)) (argumentsIn (says .entry))) .delta ⌝ }
@@ -132,15 +142,22 @@ impl Viewer {
                     open: true,
                     fields: fields.value as usize,
                 };
+                clear(delta);
                 Ok(self.set_entry(id.value, entry, cells))
             }
-            Notification::Unsub(id) => Ok(self.set_entry(id.value, Entry::CLOSED, cells)),
+            Notification::Unsub(id) => {
+                clear(delta);
+                Ok(self.set_entry(id.value, Entry::CLOSED, cells))
+            }
             Notification::U {
                 id,
                 item: _,
                 values,
             } => self.update(id.value, values, cells, delta),
-            _ => Ok(Heard::Taken),
+            _ => {
+                clear(delta);
+                Ok(Heard::Taken)
+            }
         }
     }
 
@@ -159,10 +176,12 @@ impl Viewer {
         if cells.len() != CELL_LIMIT || delta.len() != FIELD_LIMIT {
             return Err(Refusal::MEMORY);
         }
-        blank(delta);
         match read_line(line) {
             Ok(line) => self.obey(line.says, cells, delta),
-            Err(refusal) => Err(refusal),
+            Err(refusal) => {
+                clear(delta);
+                Err(refusal)
+            }
         }
     }
 }
