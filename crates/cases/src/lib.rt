@@ -1,0 +1,7 @@
+// Tables of examples, as tests.
+#[cfg(test)]
+mod decoded;
+#[cfg(test)]
+mod heard;
+#[cfg(test)]
+mod written;
