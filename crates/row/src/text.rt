@@ -55,7 +55,7 @@ impl Text {
         Some(Text { held })
     }
 
-    pub fn record(&self) -> TextRecord
+    pub(crate) fn record(&self) -> TextRecord
         ensures { λ r. ⌜ r ≡ now (self .entry) .held ⌝ }
     {
         self.held

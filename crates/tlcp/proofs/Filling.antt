@@ -6,25 +6,22 @@ use mathlib.Core.Logic.{⊎-elim}
 use Prim.Native.Nat.{ℕ, suc, _+_, _-_, _≤_, _<_}
 use native.Mathlib.Omega.{arith}
 use lib.Dec.{eqb, leb, ltb}
-use lib.ListN.{length, set, take, drop, replicate}
+use lib.ListN.{length, getD, set, take, drop, replicate}
 use Rattle.std.specs.declared.option.Option.{Option}
 use Rattle.std.specs.declared.option.Option.the-variants.{Some, None}
 use Rattle.std.specs.declared.result.Result.{Result}
 use Rattle.std.specs.declared.result.Result.the-variants.{Ok, Err}
-use Rattle.std.proofs.shelf.Lists.{append-nil, length-append, length-replicate, length-push, map-append, map-set, set-at, replicate-append-replicate}
+use Rattle.std.proofs.shelf.Lists.{append-nil, set-getD, length-append, length-replicate, length-push, map-append, map-set, set-at, replicate-append-replicate}
 use Rattle.std.proofs.shelf.Tests.{cond-true, cond-false, ne-eqb, eqb-true, eqb-false, le-leb, lt-leb, lt-ltb, leb-true, leb-false}
 use Rattle.std.proofs.shelf.Ways.{tells}
-use Rattle.row.proofs.Every.{some-from-cond}
 use Rattle.row.specs.Kinds.{Kind}
 use Rattle.row.specs.Records.{held}
 use Rattle.row.specs.Rows.{Change, same}
 use Rattle.row.specs.declared.change.Change as memory
 use Rattle.row.specs.declared.fault.Refusal.{Refusal}
-use Rattle.tlcp.specs.Held.{filled, meant, meantOr, countOf, placed}
+use Rattle.tlcp.specs.Held.{filled, size, sizeOr, slotAfter}
 use Rattle.tlcp.specs.Lists.{Meant, sames, one, values, push, readValue, readValues, takeMeant, ahead, shifted, uncovered}
 use Rattle.tlcp.specs.Parts.{placeOf, before, behind}
-use Rattle.tlcp.specs.declared.spelled.Spelled.{Spelled}
-use Rattle.tlcp.specs.declared.spelled.Spelled.the-variants.{Sames, One}
 
 -- the values behind the first, if there is a pipe
 abbrev pub valuesOf : Option (List ℕ) → List (List ℕ)
@@ -67,10 +64,6 @@ abbrev pub changesOf : Meant → List Change
 changesOf (sames n) = replicate n same
 changesOf (one c) = c ∷ []
 
-abbrev pub size : Meant → ℕ
-size (sames n) = n
-size (one c) = 1
-
 pub length-changes : (m : Meant) → length (changesOf m) ≡ size m
 length-changes (sames n) = length-replicate n same
 length-changes (one c) = refl
@@ -93,39 +86,33 @@ module _ (allowed : List ℕ → Bool) (at left : ℕ) (v : List ℕ) (vs : List
   value-past (sames n) e h = some-left ∙ ap (takeMeant left at others) e ∙ cond-false (leb n left) _ _ (lt-leb n left h)
   value-past (one c) e h = absurd (omega arith)
 
-module _ {R : Type 0} (k : Kind R) where
-  pub meant-ok : (said : Spelled R) (r : Result Meant Refusal) → Ok said ≡ meantOr k r → (m : Meant) × (r ≡ Ok m) × (said ≡ meant k m)
-  meant-ok said (Ok m) e = (m, refl, cc)
-  meant-ok said (Err x) e = absurd (let z : _≡_ {A = ℕ} 0 1 = cc in omega arith)
+pub size-ok : (n : ℕ) (r : Result Meant Refusal) → Ok n ≡ sizeOr r → (m : Meant) × (r ≡ Ok m) × (n ≡ size m)
+size-ok n (Ok m) e = (m, refl, cc)
+size-ok n (Err x) e = absurd (let z : _≡_ {A = ℕ} 0 1 = cc in omega arith)
 
-  pub meant-err : (x : Refusal) (r : Result Meant Refusal) → Err x ≡ meantOr k r → r ≡ Err x
-  meant-err x (Ok m) e = absurd (let z : _≡_ {A = ℕ} 0 1 = cc in omega arith)
-  meant-err x (Err y) e = cc
+pub size-err : (x : Refusal) (r : Result Meant Refusal) → Err x ≡ sizeOr r → r ≡ Err x
+size-err x (Ok m) e = absurd (let z : _≡_ {A = ℕ} 0 1 = cc in omega arith)
+size-err x (Err y) e = cc
 
-  pub count-meant : (m : Meant) → countOf (meant k m) ≡ size m
-  count-meant (sames n) = refl
-  count-meant (one c) = refl
-
-  pub placed-meant : (m : Meant) (d : List Change) → length d + size m ≤ 12 → placed (meant k m) (length d) (map (held k) (filled d)) ≡ map (held k) (filled (d ++ changesOf m))
-  placed-meant (sames n) d room =
-      let l = length-append d (replicate n same) ∙ ap (λ j. length d + j) (length-replicate n same) in
-      let k′ : 12 - length d ≡ n + (12 - length (d ++ replicate n same)) = omega arith in
-      ap (map (held k))
-      (ap (λ j. d ++ replicate j same) k′
-      ∙ ap (λ x. d ++ x) (sym (replicate-append-replicate n (12 - length (d ++ replicate n same)) same))
-      ∙ sym (append-assoc d (replicate n same) _))
-  placed-meant (one c) d room =
-      let l = length-push d c in
-      let k′ : 12 - length d ≡ suc (12 - length (d ++ c ∷ [])) = omega arith in
-      sym (map-set (held k) (filled d) (length d) c)
-      ∙ ap (map (held k))
-      (ap (λ j. set (d ++ replicate j same) (length d) c) k′
-      ∙ set-at d same (replicate (12 - length (d ++ c ∷ [])) same) c (length d) refl
-      ∙ sym (append-assoc d (c ∷ []) _))
-
-none-from-cond : {X : Type 0} (b : Bool) (y : X) → None ≡ cond b (Some y) None → b ≡ false
-none-from-cond true y e = absurd (let z : _≡_ {A = ℕ} 0 1 = cc in omega arith)
-none-from-cond false y e = refl
+-- the delta's places after a value that speaks of the fields behind d, the first of which had x
+pub slot-taken : {R : Type 0} (k : Kind R) (m : Meant) (d : List Change) (x : memory.Change R) → length d + size m ≤ 12 → x ≡ getD (map (held k) (filled d)) (length d) x → set (map (held k) (filled d)) (length d) (slotAfter k (Ok m) x) ≡ map (held k) (filled (d ++ changesOf m))
+slot-taken k (sames n) d x room read =
+    let l = length-append d (replicate n same) ∙ ap (λ j. length d + j) (length-replicate n same) in
+    let more : 12 - length d ≡ n + (12 - length (d ++ replicate n same)) = omega arith in
+    ap (set (map (held k) (filled d)) (length d)) read
+    ∙ set-getD (map (held k) (filled d)) (length d) x
+    ∙ ap (map (held k))
+    (ap (λ j. d ++ replicate j same) more
+    ∙ ap (λ y. d ++ y) (sym (replicate-append-replicate n (12 - length (d ++ replicate n same)) same))
+    ∙ sym (append-assoc d (replicate n same) _))
+slot-taken k (one c) d x room read =
+    let l = length-push d c in
+    let more : 12 - length d ≡ suc (12 - length (d ++ c ∷ [])) = omega arith in
+    sym (map-set (held k) (filled d) (length d) c)
+    ∙ ap (map (held k))
+    (ap (λ j. set (d ++ replicate j same) (length d) c) more
+    ∙ set-at d same (replicate (12 - length (d ++ c ∷ [])) same) c (length d) refl
+    ∙ sym (append-assoc d (c ∷ []) _))
 
 -- the changes read so far, and what is left of the list to say of the other fields
 pub record Sofar {R : Type 0} (k : Kind R) (fields : ℕ) (list : List ℕ) (delta : List (memory.Change R)) (covered at : ℕ) (vs : List (List ℕ)) : Type 0 where
@@ -154,34 +141,31 @@ module _ {R : Type 0} (k : Kind R) (fields : ℕ) (list : List ℕ) (delta : Lis
 
   -- the next value
   module _ (v : List ℕ) (vs : List (List ℕ)) (s : Sofar k fields list delta covered at (v ∷ vs)) (some : covered < fields) where
-    pub next-refused : (x : Refusal) → Err x ≡ meantOr k (readValue (k .allowed) v) → readValues (k .allowed) 0 fields (values list) ≡ Err (shifted at x)
-    next-refused x e = s .result ∙ ap (ahead (s .changes)) (value-refused (k .allowed) at (fields - covered) v vs (omega arith) x (meant-err k x (readValue (k .allowed) v) e))
+    pub next-refused : (x : Refusal) → Err x ≡ sizeOr (readValue (k .allowed) v) → readValues (k .allowed) 0 fields (values list) ≡ Err (shifted at x)
+    next-refused x e = s .result ∙ ap (ahead (s .changes)) (value-refused (k .allowed) at (fields - covered) v vs (omega arith) x (size-err x (readValue (k .allowed) v) e))
 
-    module _ (said : Spelled R) (e : Ok said ≡ meantOr k (readValue (k .allowed) v)) where
-      pub next-past : None ≡ cond (leb (countOf said) (fields - covered)) (Some (covered + countOf said)) None → readValues (k .allowed) 0 fields (values list) ≡ Err uncovered
-      next-past f =
-          let m = meant-ok k said (readValue (k .allowed) v) e in
-          let n = ap countOf (m .2) ∙ count-meant k (m .0) in
-          let over : fields - covered < size (m .0) = omega (arith, leb-false _ _ (none-from-cond _ _ f)) in
-          s .result ∙ ap (ahead (s .changes)) (value-past (k .allowed) at (fields - covered) v vs (omega arith) (m .0) (m .1) over)
+    module _ (n : ℕ) (e : Ok n ≡ sizeOr (readValue (k .allowed) v)) where
+      pub next-past : fields - covered < n → readValues (k .allowed) 0 fields (values list) ≡ Err uncovered
+      next-past over =
+          let m = size-ok n (readValue (k .allowed) v) e in
+          let is = m .2 in
+          s .result ∙ ap (ahead (s .changes)) (value-past (k .allowed) at (fields - covered) v vs (omega arith) (m .0) (m .1) (omega arith))
 
-      pub next-taken : (more : ℕ) (delta′ : List (memory.Change R)) → fields ≤ 12 → Some more ≡ cond (leb (countOf said) (fields - covered)) (Some (covered + countOf said)) None → delta′ ≡ placed said covered delta → Sofar k fields list delta′ more (at + length v + 1) vs
-      next-taken more delta′ small f written =
-          let m = meant-ok k said (readValue (k .allowed) v) e in
-          let n = ap countOf (m .2) ∙ count-meant k (m .0) in
-          let h = some-from-cond _ more (covered + countOf said) f in
-          let fits = leb-true (countOf said) (fields - covered) (h .0) in
-          let is = h .1 in
+      pub next-taken : (x : memory.Change R) → fields ≤ 12 → n ≤ fields - covered → x ≡ getD delta covered x → Sofar k fields list (set delta covered (slotAfter k (readValue (k .allowed) v) x)) (covered + n) (at + length v + 1) vs
+      next-taken x small fits read =
+          let m = size-ok n (readValue (k .allowed) v) e in
+          let is = m .2 in
           let long = length-append (s .changes) (changesOf (m .0)) in
           let short = length-changes (m .0) in
           let count = s .count in
-          let left : fields - covered - size (m .0) ≡ fields - more = omega arith in
+          let left : fields - covered - size (m .0) ≡ fields - (covered + n) = omega arith in
+          let there : x ≡ getD (map (held k) (filled (s .changes))) (length (s .changes)) x = read ∙ (λ i. getD (s .holds i) (count i) x) in
           record {
             changes = s .changes ++ changesOf (m .0);
             count = omega arith;
             within = omega arith;
-            holds = written ∙ (λ i. placed (m .2 i) (count i) (s .holds i)) ∙ placed-meant k (m .0) (s .changes) (omega arith);
-            result = s .result ∙ ap (ahead (s .changes)) (value-taken (k .allowed) at (fields - covered) v vs (omega arith) (m .0) (m .1) (omega arith)) ∙ ap (λ n. ahead (s .changes) (ahead (changesOf (m .0)) (readValues (k .allowed) (at + length v + 1) n vs))) left ∙ sym (ahead-ahead (s .changes) (changesOf (m .0)) (readValues (k .allowed) (at + length v + 1) (fields - more) vs));
+            holds = (λ i. set (s .holds i) (count i) (slotAfter k (m .1 i) x)) ∙ slot-taken k (m .0) (s .changes) x (omega arith) there;
+            result = s .result ∙ ap (ahead (s .changes)) (value-taken (k .allowed) at (fields - covered) v vs (omega arith) (m .0) (m .1) (omega arith)) ∙ ap (λ j. ahead (s .changes) (ahead (changesOf (m .0)) (readValues (k .allowed) (at + length v + 1) j vs))) left ∙ sym (ahead-ahead (s .changes) (changesOf (m .0)) (readValues (k .allowed) (at + length v + 1) (fields - (covered + n)) vs));
           }
 
 ahead-nil : (r : Result (List Change) Refusal) → r ≡ ahead [] r

@@ -3,7 +3,7 @@ use mathlib.Core.Bool.{cond}
 use mathlib.Core.List.{List, [], _++_, map}
 use Prim.Native.Nat.{ℕ, _-_}
 use lib.Dec.{eqb}
-use lib.ListN.{length, replicate, set}
+use lib.ListN.{length, replicate}
 use Rattle.std.specs.declared.result.Result.{Result}
 use Rattle.std.specs.declared.result.Result.the-variants.{Ok, Err}
 use Rattle.row.specs.Kinds.{Kind}
@@ -15,21 +15,17 @@ use Rattle.row.specs.Rows.{same}
 use Rattle.row.specs.declared.change.Change.{Change}
 use Rattle.row.specs.declared.fault.Refusal.{Refusal}
 use Rattle.tlcp.specs.Lists.{Meant, sames, one, readValue, readList}
-use Rattle.tlcp.specs.declared.spelled.Spelled.{Spelled}
-use Rattle.tlcp.specs.declared.spelled.Spelled.the-variants.{Sames, One}
 
 -- a delta with same in the places behind its fields
 abbrev pub filled : List rows.Change → List rows.Change
 filled d = d ++ replicate (fieldLimit - length d) same
 
 module _ {R : Type 0} (k : Kind R) where
-  abbrev pub meant : Meant → Spelled R
-  meant (sames n) = Sames n
-  meant (one c) = One (records.held k c)
-
-  abbrev pub meantOr : Result Meant Refusal → Result (Spelled R) Refusal
-  meantOr (Ok m) = Ok (meant m)
-  meantOr (Err r) = Err r
+  -- the change of the first field that a value speaks of, which was c
+  abbrev pub slotAfter : Result Meant Refusal → Change R → Change R
+  slotAfter (Ok (sames n)) c = c
+  slotAfter (Ok (one d)) c = records.held k d
+  slotAfter (Err r) c = c
 
   abbrev pub heldDelta : Result (List rows.Change) Refusal → List (Change R)
   heldDelta (Ok d) = map (records.held k) (filled d)
@@ -40,11 +36,10 @@ answerOf (Ok d) = Ok tt
 answerOf (Err r) = Err r
 
 -- how many fields a value speaks of
-abbrev pub countOf : {R : Type 0} → Spelled R → ℕ
-countOf (Sames n) = n
-countOf (One c) = 1
+abbrev pub size : Meant → ℕ
+size (sames n) = n
+size (one c) = 1
 
--- the places of a row after a value that speaks of the fields from n on
-abbrev pub placed : {R : Type 0} → Spelled R → ℕ → List (Change R) → List (Change R)
-placed (Sames m) n cs = cs
-placed (One c) n cs = set cs n c
+abbrev pub sizeOr : Result Meant Refusal → Result ℕ Refusal
+sizeOr (Ok m) = Ok (size m)
+sizeOr (Err r) = Err r

@@ -10,7 +10,6 @@ mod list_write;
 mod number;
 mod part;
 mod shape;
-mod spelled;
 mod tag;
 mod write;
 

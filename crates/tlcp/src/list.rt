@@ -9,13 +9,12 @@ ghost use Rattle.std.specs.declared.option.Option.the-variants.{Some, None};
 ghost use Rattle.std.specs.declared.result.Result.the-variants.{Ok, Err};
 ghost use Rattle.row.specs.Limits.{fieldLimit};
 ghost use Rattle.row.specs.Records.{memoryRefusal};
-ghost use Rattle.tlcp.specs.Held.{meantOr, heldDelta, answerOf, countOf, placed};
+ghost use Rattle.tlcp.specs.Held.{sizeOr, slotAfter, heldDelta, answerOf};
 ghost use Rattle.tlcp.specs.Lists.{uncovered, values, readText, readContent, readValue, readValues, readList, ReadsSpelled};
 use crate::escape::decode;
 use crate::number::read_number;
 use crate::part::find;
 use crate::part::split;
-use crate::spelled::Spelled;
 use row::Change;
 use row::FIELD_LIMIT;
 use row::Fault;
@@ -32,15 +31,19 @@ pub(crate) const UNCOVERED: Refusal = Refusal {
 };
 
 // A text in the place of a value.
-fn read_text<R: Value>(text: &[u8]) -> Result<Spelled<R>, Refusal>
-    ensures answer { λ r. ⌜ r ≡ meantOr kind (readText (kind .allowed) (now (text .entry))) ⌝ }
+fn read_text<R: Value>(text: &[u8], slot: &mut Change<R>) -> Result<usize, Refusal>
+    ensures answer { λ r. ⌜ r ≡ sizeOr (readText (kind .allowed) (now (text .entry))) ⌝ }
+    ensures change { λ _. ⌜ now (slot .exit) ≡ slotAfter kind (readText (kind .allowed) (now (text .entry))) (now (slot .entry)) ⌝ }
     ensures within { λ r. ⌜ Cases r (λ _. Unit {0}) (λ e. e .place ≡ 0) ⌝ }
 {
     match R::read(text) {
-        Some(raw) => Ok(Spelled::One(Change {
-            mark: Mark::Value,
-            raw,
-        })),
+        Some(raw) => {
+            *slot = Change {
+                mark: Mark::Value,
+                raw,
+            };
+            Ok(1)
+        }
         None => Err(Refusal {
             fault: Fault::Value,
             place: 0,
@@ -49,13 +52,14 @@ fn read_text<R: Value>(text: &[u8]) -> Result<Spelled<R>, Refusal>
 }
 
 // A value that is neither empty nor one of the marks.
-fn read_content<R: Value>(value: &[u8]) -> Result<Spelled<R>, Refusal>
-    ensures answer { λ r. ⌜ r ≡ meantOr kind (readContent (kind .allowed) (now (value .entry))) ⌝ }
+fn read_content<R: Value>(value: &[u8], slot: &mut Change<R>) -> Result<usize, Refusal>
+    ensures answer { λ r. ⌜ r ≡ sizeOr (readContent (kind .allowed) (now (value .entry))) ⌝ }
+    ensures change { λ _. ⌜ now (slot .exit) ≡ slotAfter kind (readContent (kind .allowed) (now (value .entry))) (now (slot .entry)) ⌝ }
     ensures within { λ r. ⌜ Cases r (λ _. Unit {0}) (λ e. e .place ≤ length (now (value .entry))) ⌝ }
 {
     // most values have no escape, and need no buffer
     if find(value, b'%') == value.len() {
-        return read_text(value);
+        return read_text(value, slot);
     }
     let mut text = [0u8; TEXT_LIMIT];
     match decode(value, &mut text) {
@@ -63,7 +67,7 @@ fn read_content<R: Value>(value: &[u8]) -> Result<Spelled<R>, Refusal>
             fault: Fault::Escape,
             place,
         }),
-        Ok(n) if n <= TEXT_LIMIT => read_text(&text[0..n]),
+        Ok(n) if n <= TEXT_LIMIT => read_text(&text[0..n], slot),
         Ok(_) => Err(Refusal {
             fault: Fault::Value,
             place: 0,
@@ -71,53 +75,31 @@ fn read_content<R: Value>(value: &[u8]) -> Result<Spelled<R>, Refusal>
     }
 }
 
-// One value; places are counted from its first byte.
-fn read_value<R: Value>(value: &[u8]) -> Result<Spelled<R>, Refusal>
-    ensures answer { λ r. ⌜ r ≡ meantOr kind (readValue (kind .allowed) (now (value .entry))) ⌝ }
+// One value. Answers how many fields it speaks of, and sets the change of the first one unless they are same.
+// Places are counted from the value's first byte.
+fn read_value<R: Value>(value: &[u8], slot: &mut Change<R>) -> Result<usize, Refusal>
+    ensures answer { λ r. ⌜ r ≡ sizeOr (readValue (kind .allowed) (now (value .entry))) ⌝ }
+    ensures change { λ _. ⌜ now (slot .exit) ≡ slotAfter kind (readValue (kind .allowed) (now (value .entry))) (now (slot .entry)) ⌝ }
     ensures within { λ r. ⌜ Cases r (λ _. Unit {0}) (λ e. e .place ≤ length (now (value .entry))) ⌝ }
 {
     match value {
-        [] => Ok(Spelled::Sames(1)),
+        [] => Ok(1),
         [b'^', digits @ ..] => match read_number(digits, 1, FIELD_LIMIT as u32) {
-            Some(n) => Ok(Spelled::Sames(n as u8)),
+            Some(n) => Ok(n as usize),
             None => Err(Refusal {
                 fault: Fault::Number,
                 place: 0,
             }),
         },
-        [b'#'] => Ok(Spelled::One(Change {
-            mark: Mark::Null,
-            raw: R::rest(),
-        })),
-        [b'$'] => read_text(b""),
-        _ => read_content(value),
-    }
-}
-
-// Takes what a value says of the fields from `covered` on. Answers how many are covered then, or nothing
-// where the value runs past the row.
-fn place<R: Value>(
-    said: Spelled<R>,
-    covered: usize,
-    fields: usize,
-    delta: &mut [Change<R>],
-) -> Option<usize>
-    requires { ⌜ covered < fields ⌝ ∗ ⌜ fields ≤ length (now delta) ⌝ }
-    ensures answer { λ r. ⌜ r ≡ cond (leb (countOf said) (fields - covered)) (Some (covered + countOf said)) None ⌝ }
-    ensures changes { λ _. ⌜ now (delta .exit) ≡ placed said covered (now (delta .entry)) ⌝ }
-{
-    match said {
-        Spelled::Sames(n) => {
-            if n as usize <= fields - covered {
-                Some(covered + n as usize)
-            } else {
-                None
-            }
+        [b'#'] => {
+            *slot = Change {
+                mark: Mark::Null,
+                raw: R::rest(),
+            };
+            Ok(1)
         }
-        Spelled::One(change) => {
-            delta[covered] = change;
-            Some(covered + 1)
-        }
+        [b'$'] => read_text(b"", slot),
+        _ => read_content(value, slot),
     }
 }
 
@@ -132,8 +114,8 @@ fn read_values<R: Value>(list: &[u8], fields: usize, delta: &mut [Change<R>]) ->
     let mut left = list;
     while covered < fields {
         let (value, rest) = split(left, b'|');
-        let said = match read_value::<R>(value) {
-            Ok(said) => said,
+        let more = match read_value(value, &mut delta[covered]) {
+            Ok(more) => more,
             Err(refusal) => {
                 return Err(Refusal {
                     fault: refusal.fault,
@@ -141,10 +123,10 @@ fn read_values<R: Value>(list: &[u8], fields: usize, delta: &mut [Change<R>]) ->
                 });
             }
         };
-        let Some(more) = place(said, covered, fields, delta) else {
+        if more > fields - covered {
             return Err(UNCOVERED);
-        };
-        covered = more;
+        }
+        covered += more;
         let Some(rest) = rest else {
             return if covered == fields {
                 Ok(())
