@@ -12,7 +12,7 @@ use Rattle.std.proofs.shelf.Lists.{append-nil, length-append, length-push, take
 use Rattle.std.proofs.shelf.Tests.{cond-true, cond-false, lt-ltb}
 use Rattle.std.proofs.shelf.Ways.{tells}
 use Rattle.tlcp.specs.Parts.{placeOf, before, behind}
-use Rattle.follow.specs.Feeding.{State, Step, kept, keep, heldLimit, ended, fed}
+use Rattle.follow.specs.Feeding.{State, Step, kept, keep, heldLimit, ended, fedByte, fed, CutAnywhere}
 
 -- a step behind the text t
 abbrev pub after : List ℕ → Step → Step
@@ -104,3 +104,10 @@ module _ (start : State) (block t : List ℕ) (st : State) (left : List ℕ) (so
 
   pub one-line : (rest : List ℕ) → Some rest ≡ behind 10 left → (st″ : State) → st″ ≡ ended st′ .state → fed start block ≡ after (t ++ ended st′ .text) (fed st″ rest)
   one-line rest e st″ f = turn (Some rest) e ∙ after-after t (ended st′ .text) (fed (ended st′ .state) rest) ∙ ap (λ x. after (t ++ ended st′ .text) (fed x rest)) (sym f)
+
+pub cut-anywhere : CutAnywhere
+cut-anywhere st [] q = refl
+cut-anywhere st (b ∷ p) q =
+    let one = fedByte st b in
+    ap (after (one .text)) (cut-anywhere (one .state) p q)
+    ∙ after-after (one .text) (fed (one .state) p .text) (fed (fed (one .state) p .state) q)

@@ -1,4 +1,5 @@
--- What the input does to a follower, byte by byte, and what is printed of it. How the input is cut into blocks does not matter.
+-- What the input does to a follower, byte by byte, and what is printed of it.
+use mathlib.Core.Path.{_≡_}
 use mathlib.Core.Bool.{Bool, cond, _&&_}
 use mathlib.Core.List.{List, [], _∷_, _++_, map}
 use Prim.Native.Nat.{ℕ, _+_, _-_, _^_, min}
@@ -80,6 +81,12 @@ fed st (b ∷ s) =
     let one = fedByte st b in
     let more = fed (one .state) s in
     record { state = more .state; text = one .text ++ more .text }
+
+-- two blocks one after the other are one block: how the input is cut does not matter
+abbrev pub CutAnywhere : Type 0
+CutAnywhere =
+    (st : State) (p q : List ℕ)
+    → fed st (p ++ q) ≡ record { state = fed (fed st p .state) q .state; text = fed st p .text ++ fed (fed st p .state) q .text }
 
 -- a stream before its first byte
 abbrev pub fresh : State

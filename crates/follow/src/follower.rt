@@ -5,7 +5,7 @@ ghost use Prim.Native.Nat.{_-_};
 ghost use lib.ListN.{length, take};
 ghost use Rattle.std.specs.Of.Vec.{vec-items};
 ghost use Rattle.std.specs.Vec.{made};
-ghost use Rattle.follow.specs.Feeding.{heldLimit, kept, keep, bare, fresh, ended, fed, lastLine, finished};
+ghost use Rattle.follow.specs.Feeding.{heldLimit, kept, keep, bare, fresh, ended, fed, CutAnywhere, lastLine, finished};
 ghost use Rattle.follow.specs.Followers.{Fed, Heard, stateOf};
 use crate::print::push_line;
 use crate::rows::push_rows;
@@ -93,7 +93,8 @@ impl Follower {
 impl Stream {
     // A viewer whose entries hold the IDs 1 to 8, closed, and nothing heard.
     pub fn new(heap: Global) -> Stream
-        ensures { λ r. ⌜ stateOf r ≡ fresh ⌝ }
+        ensures state { λ r. ⌜ stateOf r ≡ fresh ⌝ }
+        ensures blocks { λ _. ⌜ CutAnywhere ⌝ }
     {
         let rest = TextValue::rest();
         let null = Cell {
