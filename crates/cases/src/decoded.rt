@@ -1,6 +1,6 @@
 // Texts with escapes, and the bytes that they stand for.
-use bytes::decode;
 use std::test::*;
+use tlcp::decode;
 
 const ROOM: usize = 16;
 

@@ -1,10 +1,9 @@
 // Lines that a viewer hears, and what comes of them.
 use Answer::{No, Passed, Taken};
-use lines::LINE_LIMIT;
-use lists::{LIST_LIMIT, write_list};
 use row::{Cell, Change, FIELD_LIMIT, Mark, TextRecord, Value, whole_row};
 use std::process::Abort;
 use std::test::*;
+use tlcp::{LINE_LIMIT, LIST_LIMIT, write_list};
 use viewer::{CELL_LIMIT, Heard, TAP_LIMIT, Viewer};
 
 // A refusal has its fault's number and its place.

@@ -1,15 +1,9 @@
 // Tables of examples, as tests.
-#[cfg(test)]
-mod composed;
+#![tactic(auto)]
+
 #[cfg(test)]
 mod decoded;
 #[cfg(test)]
 mod heard;
-#[cfg(test)]
-mod kinds;
-#[cfg(test)]
-mod notified;
-#[cfg(test)]
-mod requested;
 #[cfg(test)]
 mod written;

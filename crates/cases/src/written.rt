@@ -1,8 +1,8 @@
 // Value lists, written and read back.
-use lists::{LIST_LIMIT, read_list, write_list};
 use row::{Change, FIELD_LIMIT, Mark, TextRecord, Value};
 use std::process::Abort;
 use std::test::*;
+use tlcp::{LIST_LIMIT, read_list, write_list};
 
 type Row = [(Mark, &'static [u8]); FIELD_LIMIT];
 

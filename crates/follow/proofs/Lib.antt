@@ -1,3 +1,3 @@
-pub mod Room
+pub mod Pushed
 pub mod Fed
 pub mod RowLists

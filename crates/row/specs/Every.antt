@@ -1,12 +1,11 @@
 -- A test at each element of a list, and a list with zeros behind it.
-use Rattle.std.specs.Prelude.{◌≡◌, ℕ, zero, suc, ◌+◌, ◌-◌, ◌<◌, ◌≤◌, Bool, true, false, cond, List, [], ◌∷◌, ◌++◌, length, take, drop, set, replicate, Some, None, ◌==◌, ◌≢◌, nat_le, slice_index, slice_index_or, slice_set, refl}
-use Rattle.std.proofs.Common.{sym, ap, ◌∙◌, ⊎_elim, append_assoc, le_of_suc-le-suc, not-suc-le-zero, arith}
+use Rattle.std.specs.Prelude.{◌≡◌, ℕ, zero, suc, ◌+◌, ◌-◌, ◌<◌, ◌≤◌, Bool, true, false, cond, ◌&&◌, List, [], ◌∷◌, ◌++◌, length, take, drop, set, replicate, Some, None, ◌≢◌, nat_le, slice_index, slice_index_or, slice_set, refl}
+use Rattle.std.proofs.Common.{sym, ap, ◌∙◌, ⊎_elim, append_assoc, le_of_suc-le-suc, not-suc-le-zero, arith, rules}
 use Rattle.std.specs.List.{AllByRecursion as All}
 use Rattle.std.proofs.lemmas.List.{get_or-drop, length-drop, length-take, take-append-drop, take_more, take_all, drop_all, drop-append-le, drop_at, set_at, length-append, length-replicate, length-take-le, take_at}
-use Rattle.std.proofs.lemmas.Bool.{both_ways, and_parts, and_from, cases_lt, cases_Bool, ltb-true, leb-true, eqb-true, le-leb, eq-eqb, cond-true, cond-false, cond_both}
+use Rattle.std.proofs.lemmas.Bool.{and_parts, and_from, cases_lt, cases_Bool, ltb-true, leb-true, eqb-true, le-leb, cond-true, cond_both}
 use Rattle.row.specs.Texts.{every, is_byte, is_zero, padded, text_allowed, text_sound, text_of, text_record, text_kind}
-use Rattle.row.specs.Limits.{text_limit}
-use Rattle.row.specs.Kinds.{Kind, Lawful}
+use Rattle.row.specs.Kinds.{Lawful}
 use Rattle.row.specs.declared.text.TextRecord.{TextRecord}
 
 pub every_append : (p : ℕ → Bool) (xs ys : List ℕ) → every p xs ≡ true → every p ys ≡ true → every p (xs ++ ys) ≡ true
@@ -19,10 +18,6 @@ pub every-at : (p : ℕ → Bool) (xs : List ℕ) (i d : ℕ) → i < length xs 
 every-at p [] i d h e = absurd (not-suc-le-zero h)
 every-at p (x ∷ xs) zero d h e = (and_parts (p x) (every p xs) e).0
 every-at p (x ∷ xs) (suc i) d h e = every-at p xs i d (le_of_suc-le-suc h) (and_parts (p x) (every p xs) e).1
-
-pub every-not : (p : ℕ → Bool) (xs : List ℕ) (i d : ℕ) → i < length xs → p (slice_index_or xs i d) ≡ false → every p xs ≡ false
-every-not p xs i d h e =
-    ⊎_elim (λ all. absurd (both_ways (p (slice_index_or xs i d)) e (every-at p xs i d h all))) (λ f. f) (cases_Bool (every p xs))
 
 pub every_take : (p : ℕ → Bool) (n : ℕ) (xs : List ℕ) → every p xs ≡ true → every p (take n xs) ≡ true
 every_take p zero xs e = refl
@@ -52,11 +47,11 @@ every-from-more p xs n i x h read e f =
     ∙ every_append p (drop n (take i xs)) (slice_index xs i ∷ []) e (and_from _ true (ap p (sym read) ∙ f above) refl))
     (cases_lt i n)
 
-pub every-all : (p : ℕ → Bool) (P : ℕ → Type 0) → ((x : ℕ) → p x ≡ true → P x) → (t : List ℕ) → every p t ≡ true → All P t
-every-all p P f [] e = tt
-every-all p P f (x ∷ xs) e =
-    let h = and_parts (p x) (every p xs) e in
-    (f x h.0, every-all p P f xs h.1)
+pub all-bytes : (t : List ℕ) → every is_byte t ≡ true → All (λ b. b < 256) t
+all-bytes [] e = tt
+all-bytes (x ∷ xs) e =
+    let h = and_parts (is_byte x) (every is_byte xs) e in
+    (ltb-true x 256 h.0, all-bytes xs h.1)
 
 pub length-padded : (n : ℕ) (xs : List ℕ) → length xs ≤ n → length (padded n xs) ≡ n
 length-padded n xs h =
@@ -85,47 +80,30 @@ padded-more n xs i x h room read =
     ∙ ap (λ l. l ++ replicate (n - (i + 1)) 0) (sym more)
     ∙ ap (λ m. take (i + 1) xs ++ replicate (n - m) 0) (sym longer)
 
--- what a sound text record holds
-sound-parts : (r : TextRecord) → text_sound r ≡ true → (length r.bytes ≡ text_limit) × (r.len ≤ text_limit) × (every is_byte r.bytes ≡ true) × (every is_zero (drop r.len r.bytes) ≡ true)
-sound-parts r e =
-    let h = and_parts (length r.bytes == text_limit) _ e in
-    let k = and_parts (nat_le r.len text_limit) _ h.1 in
-    let l = and_parts (every is_byte r.bytes) (every is_zero (drop r.len r.bytes)) k.1 in
-    (eqb-true (length r.bytes) text_limit h.0, leb-true r.len text_limit k.0, l.0, l.1)
-
-sound-of : (r : TextRecord) → length r.bytes ≡ text_limit → r.len ≤ text_limit → every is_byte r.bytes ≡ true → every is_zero (drop r.len r.bytes) ≡ true → text_sound r ≡ true
-sound-of r long small e f =
-    and_from _ _ (eq-eqb (length r.bytes) text_limit long) (and_from _ _ (le-leb r.len text_limit small) (and_from _ _ e f))
-
--- the same where a loop has come to the end of the bytes
-pub sound-from : (bytes : List ℕ) (len i : ℕ) → length bytes ≡ text_limit → len ≤ text_limit → length bytes ≤ i → every is_byte (take i bytes) ≡ true → every is_zero (drop len (take i bytes)) ≡ true → text_sound (record { bytes = bytes; len = len }) ≡ true
-sound-from bytes len i long small all e f =
+-- the bytes and the length of a sound text
+pub sound-from : (bytes : List ℕ) (len i : ℕ) → len ≤ 32 → length bytes ≤ i → every is_byte (take i bytes) ≡ true → every is_zero (drop len (take i bytes)) ≡ true → text_sound (record { bytes = bytes; len = len }) ≡ true
+sound-from bytes len i small all e f =
     let whole = take_all i bytes all in
-    sound-of (record { bytes = bytes; len = len }) long small (ap (every is_byte) (sym whole) ∙ e) (ap (λ l. every is_zero (drop len l)) (sym whole) ∙ f)
+    and_from _ _ (le-leb len 32 small) (and_from _ _ (ap (every is_byte) (sym whole) ∙ e) (ap (λ l. every is_zero (drop len l)) (sym whole) ∙ f))
 
 zero-behind : (r : TextRecord) (i : ℕ) → i < length r.bytes → r.len ≤ i → text_sound r ≡ true → slice_index r.bytes i ≡ 0
 zero-behind r i h above e =
+    let zeros = (and_parts (every is_byte r.bytes) (every is_zero (drop r.len r.bytes)) (and_parts (nat_le r.len 32) _ e).1).1 in
     let k : r.len + (i - r.len) ≡ i = omega arith in
     let inside : i - r.len < length (drop r.len r.bytes) = simp length-drop (omega arith) in
-    let here = eqb-true (slice_index (drop r.len r.bytes) (i - r.len)) 0 (every-at is_zero (drop r.len r.bytes) (i - r.len) 0 inside (sound-parts r e).3) in
+    let here = eqb-true (slice_index (drop r.len r.bytes) (i - r.len)) 0 (every-at is_zero (drop r.len r.bytes) (i - r.len) 0 inside zeros) in
     ap (λ j. slice_index r.bytes j) (sym k) ∙ sym (get_or-drop r.len r.bytes (i - r.len) 0) ∙ here
 
 pub not_sound : (r : TextRecord) (i : ℕ) → i < length r.bytes → r.len ≤ i → (slice_index r.bytes i ≢ 0) → text_sound r ≡ false
 not_sound r i h above ne = ⊎_elim (λ e. absurd (ne (zero-behind r i h above e))) (λ e. e) (cases_Bool (text_sound r))
 
-pub allowed-from : (t : List ℕ) → length t ≤ text_limit → every is_byte t ≡ true → text_allowed t ≡ true
-allowed-from t small e = and_from _ _ (le-leb (length t) text_limit small) e
-
-allowed-parts : (t : List ℕ) → text_allowed t ≡ true → (length t ≤ text_limit) × (every is_byte t ≡ true)
-allowed-parts t e =
-    let h = and_parts (nat_le (length t) text_limit) (every is_byte t) e in
-    (leb-true (length t) text_limit h.0, h.1)
+pub allowed-from : (t : List ℕ) → length t ≤ 32 → every is_byte t ≡ true → text_allowed t ≡ true
+allowed-from t small e = and_from _ _ (le-leb (length t) 32 small) e
 
 pub record-sound : (t : List ℕ) → text_allowed t ≡ true → text_sound (text_record t) ≡ true
 record-sound t e =
-    let h = allowed-parts t e in
-    sound-of (text_record t) (length-padded text_limit t h.0) h.0 (every-padded text_limit t h.1)
-    (ap (every is_zero) (drop-padded text_limit t) ∙ every-replicate is_zero (text_limit - length t) 0 refl)
+    let h = and_parts _ _ e in
+    and_from _ _ h.0 (and_from _ _ (every-padded 32 t h.1) (ap (every is_zero) (drop-padded 32 t) ∙ every-replicate is_zero (32 - length t) 0 refl))
 
 -- a list that is zero from n on is its front with zeros behind it
 pub padded-front : (n m : ℕ) (xs : List ℕ) → n ≤ m → length xs ≡ m → every is_zero (drop n xs) ≡ true → xs ≡ padded m (take n xs)
@@ -141,48 +119,34 @@ padded-front n m xs small long e =
         let h = and_parts (is_zero y) (every is_zero ys) f in
         (λ i. eqb-true y 0 h.0 i ∷ zeros ys h.1 i)
 
-text-sound : (r : TextRecord) → text_sound r ≡ true → text_of r ≡ take r.len r.bytes
-text-sound r e = cond-true (text_sound r) (take r.len r.bytes) [] e
-
--- a sound record is the one made of its text
-raw-text : (r : TextRecord) → text_sound r ≡ true → text_record (text_of r) ≡ r
-raw-text r e =
-    let h = sound-parts r e in
-    let front : length (take r.len r.bytes) ≡ r.len = length-take-le r.len r.bytes (omega arith) in
-    let whole = padded-front r.len text_limit r.bytes h.1 h.0 h.3 in
-    ap text_record (text-sound r e) ∙ (λ i. record { bytes = sym whole i; len = front i })
-
--- so it is the only one with that text
-pub apart_from : {R : Type 0} (k : Kind R) → ((r : R) → k.sound r ≡ true → k.raw (k.text r) ≡ r) → (r s : R) → k.sound r ≡ true → k.sound s ≡ true → k.text r ≡ k.text s → r ≡ s
-apart_from k back r s e f same = sym (back r e) ∙ ap k.raw same ∙ back s f
-
 pub text-lawful : Lawful text_kind
 text-lawful = record {
   rest-allowed = refl;
   text-allowed = λ r. cond_both (text_sound r) (take r.len r.bytes) [] (λ t. text_allowed t ≡ true) (allowed-take r) (λ e. refl);
-  raw-sound = record-sound;
-  text-raw = λ t e. text-sound (text_record t) (record-sound t e) ∙ take-padded text_limit t;
-  unsound = λ r e. cond-false (text_sound r) (take r.len r.bytes) [] e;
-  apart = apart_from text_kind raw-text;
-  short = λ t e. (allowed-parts t e).0;
-  bytes = λ t e. every-all is_byte (λ b. b < 256) (λ b. ltb-true b 256) t (allowed-parts t e).1;
+  text-raw = λ t e. cond-true (text_sound (text_record t)) (take (length t) (padded 32 t)) [] (record-sound t e) ∙ take-padded 32 t;
+  short = λ t e. leb-true (length t) 32 (and_parts (nat_le (length t) 32) (every is_byte t) e).0;
+  bytes = λ t e. all-bytes t (and_parts (nat_le (length t) 32) (every is_byte t) e).1;
 }
   where
     allowed-take : (r : TextRecord) → text_sound r ≡ true → text_allowed (take r.len r.bytes) ≡ true
     allowed-take r e =
-        let h = sound-parts r e in
-        allowed-from (take r.len r.bytes) (simp length-take (omega arith)) (every_take is_byte r.len r.bytes h.2)
+        let h = and_parts (nat_le r.len 32) _ e in
+        let small = leb-true r.len 32 h.0 in
+        let all = (and_parts (every is_byte r.bytes) (every is_zero (drop r.len r.bytes)) h.1).0 in
+        allowed-from (take r.len r.bytes) (simp length-take (omega arith)) (every_take is_byte r.len r.bytes all)
 
 pub some-from-cond : {X : Type 0} (b : Bool) (x y : X) → Some x ≡ cond b (Some y) None → (b ≡ true) × (x ≡ y)
 some-from-cond true x y e = (refl, cc)
 some-from-cond false x y e = absurd (let z : ◌≡◌ {A = ℕ} 0 1 = cc in omega arith)
 
-pub none-from-cond : {X : Type 0} (b : Bool) (y : X) → None ≡ cond b (Some y) None → b ≡ false
-none-from-cond true y e = absurd (let z : ◌≡◌ {A = ℕ} 0 1 = cc in omega arith)
-none-from-cond false y e = refl
-
-pub text-written : (r s : TextRecord) → Some r ≡ cond (text_sound s) (Some s) None → (r.len ≡ length (text_of s)) × (r.bytes ≡ padded text_limit (text_of s))
-text-written r s e =
+pub text-written : (r s : TextRecord) → Some r ≡ cond (text_sound s) (Some s) None → length r.bytes ≡ 32 → (r.len ≡ length (text_of s)) × (r.bytes ≡ padded 32 (text_of s))
+text-written r s e long =
     let h = some-from-cond (text_sound s) r s e in
-    let back = sym (raw-text s h.0) in
-    (ap (λ t. t.len) (h.1 ∙ back), ap (λ t. t.bytes) (h.1 ∙ back))
+    let parts = and_parts (nat_le s.len 32) _ h.0 in
+    let small = leb-true s.len 32 parts.0 in
+    let zeros = (and_parts (every is_byte s.bytes) (every is_zero (drop s.len s.bytes)) parts.1).1 in
+    let there : length s.bytes ≡ 32 = ap (λ t. length t.bytes) (sym h.1) ∙ long in
+    let is : text_of s ≡ take s.len s.bytes = cond-true (text_sound s) (take s.len s.bytes) [] h.0 in (
+      ap (λ t. t.len) h.1 ∙ sym (length-take-le s.len s.bytes (omega arith)) ∙ ap length (sym is),
+      ap (λ t. t.bytes) h.1 ∙ padded-front s.len 32 s.bytes small there zeros ∙ ap (padded 32) (sym is),
+    )

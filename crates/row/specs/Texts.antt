@@ -1,5 +1,5 @@
 -- The text kind: a value is any text of at most `text_limit` bytes.
-use Rattle.std.specs.Prelude.{ℕ, ◌-◌, Bool, true, cond, ◌&&◌, List, [], ◌∷◌, ◌++◌, length, take, drop, replicate, ◌==◌, nat_le, nat_lt}
+use Rattle.std.specs.Prelude.{◌≡◌, ℕ, ◌-◌, Bool, true, false, cond, ◌&&◌, List, [], ◌∷◌, ◌++◌, length, take, drop, replicate, ◌==◌, nat_le, nat_lt, refl}
 use Rattle.row.specs.Limits.{text_limit}
 use Rattle.row.specs.Kinds.{Kind}
 use Rattle.row.specs.declared.text.TextRecord.{TextRecord}
@@ -22,9 +22,9 @@ is_zero b = b == 0
 abbrev pub text_allowed : List ℕ → Bool
 text_allowed t = nat_le (length t) text_limit && every is_byte t
 
--- a record that holds a text: as many bytes as the limit, a length within it, and zeros behind that
+-- a record that holds a text: the length is within the limit, and what stands behind it is zero
 abbrev pub text_sound : TextRecord → Bool
-text_sound r = length r.bytes == text_limit && (nat_le r.len text_limit && (every is_byte r.bytes && every is_zero (drop r.len r.bytes)))
+text_sound r = nat_le r.len text_limit && (every is_byte r.bytes && every is_zero (drop r.len r.bytes))
 
 -- the text of a record; one that is not sound means the empty text
 abbrev pub text_of : TextRecord → List ℕ
@@ -34,4 +34,4 @@ abbrev pub text_record : List ℕ → TextRecord
 text_record t = record { bytes = padded text_limit t; len = length t }
 
 abbrev pub text_kind : Kind TextRecord
-text_kind = record { allowed = text_allowed; rest = []; sound = text_sound; text = text_of; raw = text_record }
+text_kind = record { allowed = text_allowed; rest = []; text = text_of; raw = text_record }

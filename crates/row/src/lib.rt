@@ -1,7 +1,8 @@
 // Rows of fields: cells, changes and their joining, the kinds of value, and the numbered refusals.
+#![tactic(auto)]
+
 mod change;
 mod fault;
-mod logic;
 mod text;
 mod value;
 
@@ -9,6 +10,5 @@ pub use change::{
     Cell, Change, FIELD_LIMIT, Mark, blank, change_row, join_delta, nullify, whole_row,
 };
 pub use fault::{Fault, Refusal};
-pub use logic::{Logic, LogicRecord};
 pub use text::{TEXT_LIMIT, Text, TextRecord};
 pub use value::Value;

@@ -2,13 +2,10 @@
 ghost use Rattle.std.specs.Prelude.{◌≡◌, ℕ, length, if◌then◌else◌, Some, None};
 ghost use Rattle.row.specs.Kinds.{Kind, Lawful, rest_record};
 ghost use Rattle.row.specs.Limits.{text_limit};
-ghost use Rattle.row.specs.Logics.{logic_kind};
 ghost use Rattle.row.specs.Texts.{padded, text_kind};
 ghost use Rattle.row.specs.Every.{text-lawful};
-ghost use Rattle.row.specs.LogicsLemmas.{logic-lawful};
 
-use crate::logic::{Logic, LogicRecord};
-use crate::text::{TEXT_LIMIT, Text, TextRecord};
+use crate::text::{Text, TextRecord};
 
 pub trait Value: Copy {
     ghost kind: { Kind Self };
@@ -22,7 +19,7 @@ pub trait Value: Copy {
         ensures { result ≡ (if kind.allowed text.now then Some (kind.raw text.now) else None) };
 
     // Writes the text that the record means, with zeros behind it, and answers its length.
-    fn write(&self, out: &mut [u8; TEXT_LIMIT]) -> usize
+    fn write(&self, out: &mut [u8; 32]) -> usize
         ensures length { result ≡ length (kind.text self.now) }
         ensures bytes { out.new ≡ padded text_limit (kind.text self.now) };
 
@@ -36,7 +33,7 @@ impl Value for TextRecord {
 
     fn rest() -> TextRecord {
         TextRecord {
-            bytes: [0; TEXT_LIMIT],
+            bytes: [0; 32],
             len: 0,
         }
     }
@@ -48,7 +45,7 @@ impl Value for TextRecord {
         }
     }
 
-    fn write(&self, out: &mut [u8; TEXT_LIMIT]) -> usize {
+    fn write(&self, out: &mut [u8; 32]) -> usize {
         match Text::check(*self) {
             Some(value) => {
                 let TextRecord { bytes, len } = value.record();
@@ -56,33 +53,9 @@ impl Value for TextRecord {
                 len as usize
             }
             None => {
-                *out = [0; TEXT_LIMIT];
+                *out = [0; 32];
                 0
             }
-        }
-    }
-}
-
-impl Value for LogicRecord {
-    ghost kind = { logic_kind };
-
-    ghost lawful = { logic-lawful };
-
-    fn rest() -> LogicRecord {
-        Logic::rest().record()
-    }
-
-    fn read(text: &[u8]) -> Option<LogicRecord> {
-        match Logic::new(text) {
-            Some(value) => Some(value.record()),
-            None => None,
-        }
-    }
-
-    fn write(&self, out: &mut [u8; TEXT_LIMIT]) -> usize {
-        match Logic::check(*self) {
-            Some(value) => value.write(out),
-            None => Logic::rest().write(out),
         }
     }
 }

@@ -8,13 +8,12 @@ use Rattle.row.specs.Rows.{same}
 use Rattle.row.specs.declared.change.Cell.{Cell}
 use Rattle.row.specs.declared.change.Change.{Change}
 use Rattle.row.specs.declared.fault.Refusal.{Refusal}
-use Rattle.lists.specs.Held.{filled, held_delta}
-use Rattle.lines.specs.Lines.{Message, Argument, numbered, coded, worded, listed, piece_of, piece, read_line}
-use Rattle.lists.specs.Lists.{read_list}
-use Rattle.row.specs.Faults.{shifted}
-use Rattle.bytes.specs.Parts.{Piece}
-use Rattle.lines.specs.declared.tag.Tag.{Tag}
-use Rattle.lines.specs.declared.tag.Tag.TheVariants.{U, Probe, Sync, Loop, Cons, Servname, Clientip, Reqok, Unsub, Conerr, End, Error, Eos, Subok, Ov, Conf, Reqerr, Conok}
+use Rattle.tlcp.specs.Held.{filled, held_delta}
+use Rattle.tlcp.specs.Lines.{Message, Argument, numbered, coded, worded, listed, piece_of, piece, read_line}
+use Rattle.tlcp.specs.Lists.{read_list, shifted}
+use Rattle.tlcp.specs.Parts.{Piece}
+use Rattle.tlcp.specs.declared.tag.Tag.{Tag}
+use Rattle.tlcp.specs.declared.tag.Tag.TheVariants.{U, Probe, Sync, Loop, Cons, Servname, Clientip, Reqok, Unsub, Conerr, End, Error, Eos, Subok, Ov, Conf, Reqerr, Conok}
 use Rattle.viewer.specs.Entries.{find_entry, opened, closed}
 use Rattle.viewer.specs.Limits.{cell_limit}
 use Rattle.viewer.specs.Rows.{null_row, change_row}

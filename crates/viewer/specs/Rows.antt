@@ -6,7 +6,7 @@ use Rattle.row.specs.Records.{held, null_cell, takes}
 use Rattle.row.specs.Rows.{over}
 use Rattle.row.specs.Rows as rows
 use Rattle.row.specs.declared.change.Cell.{Cell}
-use Rattle.lists.specs.Held.{filled}
+use Rattle.tlcp.specs.Held.{filled}
 
 -- the cells of the tap with index i
 abbrev pub row_at : {X : Type 0} → ℕ → List X → List X

@@ -1,7 +1,7 @@
 // A viewer: hears lines, and keeps the rows of subscribed taps.
 ghost use Rattle.std.specs.Prelude.{◌≡◌, ◌+◌, ◌<◌, ◌≤◌, map, length, Ok};
 ghost use Rattle.row.specs.Limits.{field_limit};
-ghost use Rattle.lines.specs.Said.{AllInLine, InLine, arguments_in, piece_in, tag_in};
+ghost use Rattle.tlcp.specs.Said.{AllInLine, InLine, arguments_in, piece_in, tag_in};
 ghost use Rattle.viewer.specs.Entries.{waiting, find_entry};
 ghost use Rattle.viewer.specs.Hearing.{blank_delta, effect_of, set_entry, update, hear_effect, heard};
 ghost use Rattle.viewer.specs.Limits.{tap_limit, cell_limit};
@@ -9,9 +9,8 @@ ghost use Rattle.viewer.specs.declared.entry.Wanted.TheVariants.{Any, Open};
 
 use crate::entry::{Entry, TAP_LIMIT, Wanted, find_entry};
 use crate::rows::{CELL_LIMIT, clear_row, update_row};
-use lines::{Notification, Part, read_line};
-use lists::read_list;
 use row::{Cell, Change, FIELD_LIMIT, Refusal, Value, blank};
+use tlcp::{Notification, Part, read_line, read_list};
 
 // What came of a line that was accepted.
 #[derive(Clone, Copy, PartialEq, Debug)]

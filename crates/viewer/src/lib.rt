@@ -1,4 +1,6 @@
 // A viewer: eight entries that follow the rows of subscribed taps by hearing lines.
+#![tactic(auto)]
+
 mod entry;
 mod hear;
 mod rows;

@@ -1,17 +1,29 @@
-use Rattle.std.proofs.Common.{◌++◌, replicate, sym, ap, ◌∙◌, arith}
+use Rattle.std.proofs.Common.{◌≡◌, List, ◌++◌, map, replicate, vec_items, sym, refl, ap, ◌∙◌, arith}
 use Rattle.std.proofs.lemmas.List.{append-nil}
-use Rattle.follow.specs.Outputs.{text_of}
+use Rattle.std.proofs.lemmas.Bool.{cond-true}
+use Rattle.row.specs.Records.{rows_fit, wholly}
+use Rattle.row.specs.declared.change.Change.{Change}
+use Rattle.row.specs.declared.change.Mark.TheVariants.{Same}
+use Rattle.row.specs.declared.text.TextRecord.{TextRecord}
+use Rattle.row.proofs.Over.{rows_fit_lem}
 use Rattle.follow.proofs.RowLists.{list_read, list-none}
 use Rattle.follow.proofs.rows.push_list.Goals as goal
+use Rattle.follow.proofs.rows.push_list.Goals.{After-write-list}
 
-pub returns-in-ok-push : goal.returns-in-ok-push
-returns-in-ok-push g c =
-    c.in-ok-push.ensures
-    ∙ ap (λ l. text_of c.args.out.now ++ l)
-    (list_read g.row.R-Value.kind g.met.R.Value.lawful c.args.row.now c.args.fields c.args.delta.now c.whole-row.new.delta c.whole-row.ensures.changes c.requires.0 c.requires.1 (replicate 1163 0) (omega arith) c.in-Ok.len c.write-list.new.out c.in-Ok.ensures.answer c.in-Ok.ensures.bytes)
+whole : (c : After-write-list) → c.whole-row.new.delta ≡ map wholly c.args.row.now
+whole c =
+    let row = c.args.row.now in
+    let same : List (Change TextRecord) = replicate 12 (record { mark = Same; raw = c.rest.result }) in
+    c.whole-row.ensures.changes ∙ cond-true (rows_fit row same) (map wholly row) same (rows_fit_lem row same c.requires refl)
+
+pub returns-in-ok-extend-from-slice : goal.returns-in-ok-extend-from-slice
+returns-in-ok-extend-from-slice c =
+    c.in-ok-extend-from-slice.ensures.items
+    ∙ ap (λ l. vec_items c.args.out.now ++ l)
+    (list_read c.args.row.now c.args.fields c.whole-row.new.delta (whole (goal.at.returns-in-ok-extend-from-slice c).After-write-list) c.requires (replicate 1163 0) (omega arith) c.in-Ok.len c.write-list.new.out c.in-Ok.ensures.answer c.in-Ok.ensures.bytes)
 
 pub returns-in-default : goal.returns-in-default
-returns-in-default g c =
-    sym (append-nil (text_of c.args.out.now))
-    ∙ ap (λ l. text_of c.args.out.now ++ l)
-    (sym (list-none g.row.R-Value.kind g.met.R.Value.lawful c.args.row.now c.args.fields c.args.delta.now c.whole-row.new.delta c.whole-row.ensures.changes c.requires.0 c.requires.1 (replicate 1163 0) (omega arith) c.in-default.field-0 c.in-default.ensures.answer))
+returns-in-default c =
+    sym (append-nil (vec_items c.args.out.now))
+    ∙ ap (λ l. vec_items c.args.out.now ++ l)
+    (sym (list-none c.args.row.now c.args.fields c.whole-row.new.delta (whole (goal.at.returns-in-default c).After-write-list) c.requires (replicate 1163 0) (omega arith) c.in-default.field-0 c.in-default.ensures.answer))

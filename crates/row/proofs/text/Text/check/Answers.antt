@@ -26,4 +26,4 @@ loop-i-preserved c = (
 
 pub invariant-of-result : goal.invariant-of-result
 invariant-of-result c =
-    (sound-from c.args.held.bytes c.args.held.len c.loop-i.i (omega arith) (omega arith) (omega arith) c.loop-i.invariant.0 c.loop-i.invariant.1, tt)
+    (sound-from c.args.held.bytes c.args.held.len c.loop-i.i (omega arith) (omega arith) c.loop-i.invariant.0 c.loop-i.invariant.1, tt)

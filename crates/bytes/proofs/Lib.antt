@@ -1,8 +1,0 @@
-pub mod Table
-pub mod Places
-pub mod Steps
-pub mod Unescaped
-pub mod Numerals
-pub mod Placing
-pub mod Encoding
-pub mod Dividing

@@ -1,9 +1,0 @@
-// Requests, written by the viewer into lent bytes.
-mod pair;
-mod part;
-mod request;
-mod whole;
-
-pub use pair::Pair;
-pub use request::{Finished, RequestWriter};
-pub use whole::compose;

@@ -1,0 +1,12 @@
+use Rattle.std.proofs.Common.{◌++◌, vec_items, ap, ◌∙◌}
+use Rattle.follow.specs.Answers.{rows_text}
+use Rattle.follow.specs.Feeding.{last_line}
+use Rattle.follow.specs.Followers.{state_of}
+use Rattle.follow.proofs.Pushed.{two}
+use Rattle.follow.proofs.follower.Stream.finish.Goals as goal
+
+pub returns : goal.returns
+returns c =
+    let last = c.in-ok-last-line.ensures in
+    two (vec_items c.args.out.now) _ _ last.1
+    (c.in-ok-push-rows.ensures ∙ ap (λ st. vec_items c.last-line.new.out ++ rows_text st.entries st.cells) last.0)

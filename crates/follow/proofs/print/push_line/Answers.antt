@@ -1,0 +1,9 @@
+use Rattle.std.proofs.Common.{[], ◌∷◌, vec_items, decimal}
+use Rattle.follow.specs.Answers.{answer_text}
+use Rattle.follow.proofs.Pushed.{three}
+use Rattle.follow.proofs.print.push_line.Goals as goal
+
+pub returns : goal.returns
+returns c =
+    three (vec_items c.args.out.now) (decimal c.args.n) (answer_text c.args.answer)
+    c.in-ok-push-number.ensures c.in-ok-push-answer.ensures (10 ∷ []) c.in-ok-extend-from-slice.ensures.items

@@ -1,7 +1,0 @@
-// Worked examples, as theorems on the definitions.
-ghost use Rattle.lists.specs.Examples.{Examples};
-
-// Nothing to run: the contract is the table.
-pub fn worked_examples()
-    ensures { Examples }
-{}

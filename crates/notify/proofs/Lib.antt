@@ -1,4 +1,0 @@
-pub mod Composing
-pub mod Apart
-pub mod Backing
-pub mod Updating

@@ -1,4 +1,0 @@
-pub mod Given
-pub mod Composed
-pub mod Written
-pub mod Back

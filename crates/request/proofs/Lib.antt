@@ -1,5 +1,0 @@
-pub mod Spellings
-pub mod Anewed
-pub mod Checks
-pub mod Sames
-pub mod Fed

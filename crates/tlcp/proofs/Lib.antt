@@ -1,0 +1,14 @@
+pub mod Table
+pub mod Places
+pub mod Steps
+pub mod Unescaped
+pub mod Spelling
+pub mod WrittenLists
+pub mod Numerals
+pub mod Saying
+pub mod Contents
+pub mod Filling
+pub mod Placing
+pub mod Appending
+pub mod Deltas
+pub mod Reading

@@ -1,0 +1,35 @@
+-- The classes of bytes.
+use Rattle.std.specs.Prelude.{ℕ, Bool, ◌&&◌, ◌||◌, ◌==◌, nat_le}
+use Rattle.tlcp.specs.declared.class.Class.{Class}
+use Rattle.tlcp.specs.declared.class.Class.TheVariants.{Digit, Hex, Escaped, EscapedFirst}
+
+-- the bit of a class in the table's entries
+abbrev pub bit_of : Class → ℕ
+bit_of Digit = 1
+bit_of Hex = 2
+bit_of Escaped = 4
+bit_of EscapedFirst = 8
+
+abbrev pub inside : ℕ → ℕ → ℕ → Bool
+inside low high b = nat_le low b && nat_le b high
+
+abbrev pub is_digit : ℕ → Bool
+is_digit b = inside 48 57 b
+
+-- a hexadecimal digit of either case
+abbrev pub is_hex : ℕ → Bool
+is_hex b = is_digit b || (inside 65 70 b || inside 97 102 b)
+
+-- control bytes, `%`, `,`, `|`, and all from 7F on
+abbrev pub is_escaped : ℕ → Bool
+is_escaped b = nat_le b 31 || (b == 37 || (b == 44 || (b == 124 || nat_le 127 b)))
+
+-- as a value's first byte also `#`, `$` and `^`
+abbrev pub is_escaped_first : ℕ → Bool
+is_escaped_first b = is_escaped b || (b == 35 || (b == 36 || b == 94))
+
+abbrev pub in_class : Class → ℕ → Bool
+in_class Digit b = is_digit b
+in_class Hex b = is_hex b
+in_class Escaped b = is_escaped b
+in_class EscapedFirst b = is_escaped_first b

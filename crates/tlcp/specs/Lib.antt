@@ -1,0 +1,11 @@
+pub mod Limits
+pub mod Bytes
+pub mod Parts
+pub mod Escapes
+pub mod Numbers
+pub mod Lists
+pub mod Lines
+pub mod Held
+pub mod Examples
+pub mod Written
+pub mod Said

@@ -1,0 +1,59 @@
+// Escapes: `%` and two hexadecimal digits stand for one byte.
+ghost use Rattle.std.specs.Prelude.{◌≡◌, ◌<◌, ◌≤◌, true, length, MatchResult};
+ghost use Rattle.std.specs.Option.{option_map};
+ghost use Rattle.tlcp.specs.Bytes.{is_hex};
+ghost use Rattle.tlcp.specs.Escapes.{hex_value, unit_of, decoded, decode_answer, overlaid};
+
+use crate::class::{Class, is_of};
+
+// The value of a hexadecimal digit of either case.
+fn hex_value(b: u8) -> u8
+    requires { is_hex b ≡ true }
+    ensures value { result ≡ hex_value b }
+    ensures bound { result < 16 }
+{
+    match b {
+        b'0'..=b'9' => b - b'0',
+        b'A'..=b'F' => b - 55,
+        _ => b - 87,
+    }
+}
+
+// The byte that the front of `s` stands for, and what is left behind it.
+fn unit(s: &[u8]) -> Option<(u8, &[u8])>
+    ensures { option_map (λ x. (x.0, x.1.now)) result ≡ unit_of s.now }
+{
+    match s {
+        [b'%', h, l, rest @ ..] => {
+            if is_of(*h, Class::Hex) && is_of(*l, Class::Hex) {
+                Some((16 * hex_value(*h) + hex_value(*l), rest))
+            } else {
+                None
+            }
+        }
+        [] | [b'%', ..] => None,
+        [b, rest @ ..] => Some((*b, rest)),
+    }
+}
+
+// Decodes `s` into `out`, as much as there is room for. Answers how many bytes `s` stands for, or the
+// place of its first `%` without two hexadecimal digits; `out` then has what comes before that.
+pub fn decode(s: &[u8], out: &mut [u8]) -> Result<usize, usize>
+    ensures answer { result ≡ decode_answer (decoded s.now) }
+    ensures bytes { out.new ≡ overlaid (decoded s.now).bytes out.old }
+    ensures within { MatchResult result (λ n. n ≤ length s.now) (λ at. at < length s.now) }
+{
+    let mut left = s;
+    let mut n = 0;
+    while left.len() > 0 {
+        let Some((b, rest)) = unit(left) else {
+            return Err(s.len() - left.len());
+        };
+        if n < out.len() {
+            out[n] = b;
+        }
+        n += 1;
+        left = rest;
+    }
+    Ok(n)
+}

@@ -1,0 +1,154 @@
+// Value lists: reading.
+ghost use Rattle.std.specs.Prelude.{◌≡◌, ◌+◌, ◌-◌, ◌<◌, ◌≤◌, true, length, is_ok, IfErr, if◌then◌else◌, Some, None, Ok, Err, nat_eq};
+ghost use Rattle.row.specs.Limits.{field_limit};
+ghost use Rattle.row.specs.Records.{memory_refusal};
+ghost use Rattle.tlcp.specs.Held.{size_or, slot_after, held_delta, answer_of};
+ghost use Rattle.tlcp.specs.Lists.{uncovered, values, read_text, read_content, read_value, read_values, read_list, ReadsSpelled};
+
+use crate::escape::decode;
+use crate::number::read_number;
+use crate::part::{find, split};
+use row::{Change, FIELD_LIMIT, Fault, Mark, Refusal, TEXT_LIMIT, Value, blank};
+
+// The row is not covered exactly: the whole list is at fault.
+pub(crate) const UNCOVERED: Refusal = Refusal {
+    fault: Fault::Cover,
+    place: 0,
+};
+
+// A text in the place of a value.
+fn read_text<R: Value>(text: &[u8], slot: &mut Change<R>) -> Result<usize, Refusal>
+    ensures answer { result ≡ size_or (read_text kind.allowed text.now) }
+    ensures change { slot.new ≡ slot_after kind (read_text kind.allowed text.now) slot.old }
+    ensures within { IfErr result (λ e. e.place ≡ 0) }
+{
+    match R::read(text) {
+        Some(raw) => {
+            *slot = Change {
+                mark: Mark::Value,
+                raw,
+            };
+            Ok(1)
+        }
+        None => Err(Refusal {
+            fault: Fault::Value,
+            place: 0,
+        }),
+    }
+}
+
+// A value that is neither empty nor one of the marks.
+fn read_content<R: Value>(value: &[u8], slot: &mut Change<R>) -> Result<usize, Refusal>
+    ensures answer { result ≡ size_or (read_content kind.allowed value.now) }
+    ensures change { slot.new ≡ slot_after kind (read_content kind.allowed value.now) slot.old }
+    ensures within { IfErr result (λ e. e.place ≤ length value.now) }
+{
+    // most values have no escape, and need no buffer
+    if find(value, b'%') == value.len() {
+        return read_text(value, slot);
+    }
+    let mut text = [0u8; TEXT_LIMIT];
+    match decode(value, &mut text) {
+        Err(place) => Err(Refusal {
+            fault: Fault::Escape,
+            place,
+        }),
+        Ok(n) if n <= TEXT_LIMIT => read_text(&text[0..n], slot),
+        Ok(_) => Err(Refusal {
+            fault: Fault::Value,
+            place: 0,
+        }),
+    }
+}
+
+// One value. Answers how many fields it speaks of, and sets the change of the first one unless they are same.
+// Places are counted from the value's first byte.
+fn read_value<R: Value>(value: &[u8], slot: &mut Change<R>) -> Result<usize, Refusal>
+    ensures answer { result ≡ size_or (read_value kind.allowed value.now) }
+    ensures change { slot.new ≡ slot_after kind (read_value kind.allowed value.now) slot.old }
+    ensures within { IfErr result (λ e. e.place ≤ length value.now) }
+{
+    match value {
+        [] => Ok(1),
+        [b'^', digits @ ..] => match read_number(digits, 1, FIELD_LIMIT as u32) {
+            Some(n) => Ok(n as usize),
+            None => Err(Refusal {
+                fault: Fault::Number,
+                place: 0,
+            }),
+        },
+        [b'#'] => {
+            *slot = Change {
+                mark: Mark::Null,
+                raw: R::rest(),
+            };
+            Ok(1)
+        }
+        [b'$'] => read_text(b"", slot),
+        _ => read_content(value, slot),
+    }
+}
+
+// Reads the values one after another into a delta that is all same.
+fn read_values<R: Value>(list: &[u8], fields: usize, delta: &mut [Change<R>]) -> Result<(), Refusal>
+    requires { (fields ≤ field_limit) × (delta.old ≡ held_delta kind (Err uncovered)) }
+    ensures answer { result ≡ answer_of (read_values kind.allowed 0 fields (values list.now)) }
+    ensures changes { is_ok result ≡ true → delta.new ≡ held_delta kind (read_values kind.allowed 0 fields (values list.now)) }
+    ensures within { IfErr result (λ e. e.place ≤ length list.now) }
+{
+    let mut covered = 0;
+    let mut left = list;
+    while covered < fields {
+        let (value, rest) = split(left, b'|');
+        let more = match read_value(value, &mut delta[covered]) {
+            Ok(more) => more,
+            Err(refusal) => {
+                return Err(Refusal {
+                    fault: refusal.fault,
+                    place: list.len() - left.len() + refusal.place,
+                });
+            }
+        };
+        if more > fields - covered {
+            return Err(UNCOVERED);
+        }
+        covered += more;
+        let Some(rest) = rest else {
+            return if covered == fields {
+                Ok(())
+            } else {
+                Err(UNCOVERED)
+            };
+        };
+        left = rest;
+    }
+    Err(UNCOVERED)
+}
+
+// Reads a list for a row of so many fields. The delta's twelve places then hold what the list says, with same
+// behind the fields, or where it is refused twelve same.
+pub fn read_list<R: Value>(
+    list: &[u8],
+    fields: usize,
+    delta: &mut [Change<R>],
+) -> Result<(), Refusal>
+    ensures answer { result ≡ (if nat_eq (length delta.old) field_limit then answer_of (read_list kind.allowed fields list.now) else Err memory_refusal) }
+    ensures changes { delta.new ≡ (if nat_eq (length delta.old) field_limit then held_delta kind (read_list kind.allowed fields list.now) else delta.old) }
+    ensures within { IfErr result (λ e. e.place ≤ length list.now) }
+    ensures spelled { ReadsSpelled }
+{
+    if delta.len() != FIELD_LIMIT {
+        return Err(Refusal::MEMORY);
+    }
+    blank(delta);
+    if fields > FIELD_LIMIT {
+        return Err(UNCOVERED);
+    }
+    match read_values(list, fields, delta) {
+        Ok(()) => Ok(()),
+        Err(refusal) => {
+            blank(delta);
+            Err(refusal)
+        }
+    }
+}
