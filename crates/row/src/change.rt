@@ -93,7 +93,7 @@ fn fill<X: Copy>(places: &mut [X], x: X)
 
 // Makes every change same.
 pub fn blank<R: Value>(delta: &mut [Change<R>])
-    ensures { delta.new ≡ replicate (length delta.old) (held kind same) }
+    ensures { delta.new ≡ replicate (length delta.old) (held R.kind same) }
 {
     let same = Change {
         mark: Mark::Same,
@@ -104,7 +104,7 @@ pub fn blank<R: Value>(delta: &mut [Change<R>])
 
 // Makes every cell null.
 pub fn nullify<R: Value>(row: &mut [Cell<R>])
-    ensures { row.new ≡ replicate (length row.old) (null_cell kind) }
+    ensures { row.new ≡ replicate (length row.old) (null_cell R.kind) }
 {
     let null = Cell {
         null: true,
@@ -117,7 +117,7 @@ pub fn nullify<R: Value>(row: &mut [Cell<R>])
 pub fn change_row<R: Value>(row: &mut [Cell<R>], delta: &[Change<R>]) -> Result<(), Refusal>
     ensures answer { result ≡ answer_if (rows_fit row.old delta.now) }
     ensures cells { row.new ≡ (if rows_fit row.old delta.now then over takes row.old delta.now else row.old) }
-    ensures means { map (cell_of kind) row.new ≡ (if rows_fit row.old delta.now then changed (map (cell_of kind) row.old) (map (change_of kind) delta.now) else map (cell_of kind) row.old) }
+    ensures means { map (cell_of R.kind) row.new ≡ (if rows_fit row.old delta.now then changed (map (cell_of R.kind) row.old) (map (change_of R.kind) delta.now) else map (cell_of R.kind) row.old) }
 {
     if row.len() != FIELD_LIMIT || delta.len() != FIELD_LIMIT {
         return Err(Refusal::MEMORY);
@@ -135,7 +135,7 @@ pub fn change_row<R: Value>(row: &mut [Cell<R>], delta: &[Change<R>]) -> Result<
 pub fn join_delta<R: Value>(earlier: &mut [Change<R>], next: &[Change<R>]) -> Result<(), Refusal>
     ensures answer { result ≡ answer_if (rows_fit earlier.old next.now) }
     ensures changes { earlier.new ≡ (if rows_fit earlier.old next.now then over later earlier.old next.now else earlier.old) }
-    ensures means { map (change_of kind) earlier.new ≡ (if rows_fit earlier.old next.now then join (map (change_of kind) earlier.old) (map (change_of kind) next.now) else map (change_of kind) earlier.old) }
+    ensures means { map (change_of R.kind) earlier.new ≡ (if rows_fit earlier.old next.now then join (map (change_of R.kind) earlier.old) (map (change_of R.kind) next.now) else map (change_of R.kind) earlier.old) }
 {
     if earlier.len() != FIELD_LIMIT || next.len() != FIELD_LIMIT {
         return Err(Refusal::MEMORY);
@@ -150,7 +150,7 @@ pub fn join_delta<R: Value>(earlier: &mut [Change<R>], next: &[Change<R>]) -> Re
 pub fn whole_row<R: Value>(row: &[Cell<R>], delta: &mut [Change<R>]) -> Result<(), Refusal>
     ensures answer { result ≡ answer_if (rows_fit row.now delta.old) }
     ensures changes { delta.new ≡ (if rows_fit row.now delta.old then map wholly row.now else delta.old) }
-    ensures means { rows_fit row.now delta.old ≡ true → map (change_of kind) delta.new ≡ map becomes (map (cell_of kind) row.now) }
+    ensures means { rows_fit row.now delta.old ≡ true → map (change_of R.kind) delta.new ≡ map becomes (map (cell_of R.kind) row.now) }
 {
     if row.len() != FIELD_LIMIT || delta.len() != FIELD_LIMIT {
         return Err(Refusal::MEMORY);
