@@ -16,10 +16,10 @@ pub returns : goal.returns
 returns g c =
     let first = c.args.earlier.now in
     let next = c.args.next.now in
-    let fits = rows_fit_lem first next c.if-earlier-ne-FIELD-LIMIT.false c.if-next-ne-FIELD-LIMIT.false in
+    let fits = rows_fit_lem first next c.if-earlier-ne-FIELD_LIMIT.false c.if-next-ne-FIELD_LIMIT.false in
     let done = sym (over-all later c.loop-i.earlier (drop c.loop-i.i next) c.loop-i.i (omega arith)) ∙ c.loop-i.invariant in
     record {
       answer = sym (ap answer_if fits);
       changes = done ∙ sym (cond-true _ (over later first next) first fits);
-      means = ap (map (change_of g.R-as-Value.kind)) done ∙ join-means g.R-as-Value.kind first next ∙ sym (cond-true _ _ (map (change_of g.R-as-Value.kind) first) fits);
+      means = ap (map (change_of g.R.Value.kind)) done ∙ join-means g.R.Value.kind first next ∙ sym (cond-true _ _ (map (change_of g.R.Value.kind) first) fits);
     }

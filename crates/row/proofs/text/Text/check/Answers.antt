@@ -24,6 +24,6 @@ loop-i-preserved c = (
       ]),
 )
 
-pub invariant-of-result : goal.invariant-of-result
-invariant-of-result c =
-    (sound-from c.args.held.bytes c.args.held.len c.loop-i.i (omega arith) (omega arith) c.loop-i.invariant.0 c.loop-i.invariant.1, tt)
+pub invariant_of-result : goal.invariant_of-result
+invariant_of-result c =
+    record { sound = sound-from c.args.held.bytes c.args.held.len c.loop-i.i (omega arith) (omega arith) c.loop-i.invariant.0 c.loop-i.invariant.1 }

@@ -20,10 +20,10 @@ done c =
       c.loop-i.invariant.0 ∙ ap (padded 32) whole,
     )
 
-pub invariant-of-result : goal.invariant-of-result
-invariant-of-result c =
+pub invariant_of-result : goal.invariant_of-result
+invariant_of-result c =
     let d = done c in
-    (ap (λ bs. text_sound (record { bytes = bs; len = length c.args.text.now })) d.1 ∙ record-sound c.args.text.now d.0, tt)
+    record { sound = ap (λ bs. text_sound (record { bytes = bs; len = length c.args.text.now })) d.1 ∙ record-sound c.args.text.now d.0 }
 
 pub returns : goal.returns
 returns c =
