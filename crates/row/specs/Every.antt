@@ -1,7 +1,7 @@
 -- A test at each element of a list, and a list with zeros behind it.
 use Rattle.std.specs.Prelude.{◌≡◌, ℕ, zero, suc, ◌+◌, ◌-◌, ◌<◌, ◌≤◌, Bool, true, false, cond, ◌&&◌, List, [], ◌∷◌, ◌++◌, length, take, drop, set, replicate, Some, None, ◌≢◌, nat_le, slice_index, slice_index_or, slice_set, refl}
 use Rattle.std.proofs.Common.{sym, ap, ◌∙◌, ⊎_elim, append_assoc, le_of_suc-le-suc, not-suc-le-zero, arith, rules}
-use Rattle.std.specs.List.{AllByRecursion as All}
+use Rattle.std.specs.List.{AllByRecursion}
 use Rattle.std.proofs.lemmas.List.{get_or-drop, length-drop, length-take, take-append-drop, take_more, take_all, drop_all, drop-append-le, drop_at, set_at, length-append, length-replicate, length-take-le, take_at}
 use Rattle.std.proofs.lemmas.Bool.{and_parts, and_from, cases_lt, cases_Bool, ltb-true, leb-true, eqb-true, le-leb, cond-true, cond_both}
 use Rattle.row.specs.Texts.{every, is_byte, is_zero, padded, text_allowed, text_sound, text_of, text_record, text_kind}
@@ -47,7 +47,7 @@ every-from-more p xs n i x h read e f =
     ∙ every_append p (drop n (take i xs)) (slice_index xs i ∷ []) e (and_from _ true (ap p (sym read) ∙ f above) refl))
     (cases_lt i n)
 
-pub all-bytes : (t : List ℕ) → every is_byte t ≡ true → All (λ b. b < 256) t
+pub all-bytes : (t : List ℕ) → every is_byte t ≡ true → AllByRecursion (λ b. b < 256) t
 all-bytes [] e = tt
 all-bytes (x ∷ xs) e =
     let h = and_parts (is_byte x) (every is_byte xs) e in

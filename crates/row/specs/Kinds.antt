@@ -1,6 +1,6 @@
 -- What a kind of value is: how its plain records in memory stand for texts.
 use Rattle.std.specs.Prelude.{◌≡◌, ℕ, ◌<◌, ◌≤◌, Bool, true, List, length}
-use Rattle.std.specs.List.{AllByRecursion as All}
+use Rattle.std.specs.List.{AllByRecursion}
 use Rattle.row.specs.Limits.{text_limit}
 
 pub record Kind (R : Type 0) : Type 0 where
@@ -19,7 +19,7 @@ pub record Lawful {R : Type 0} (k : Kind R) : Type 0 where
   pub text-raw : (t : List ℕ) → k.allowed t ≡ true → k.text (k.raw t) ≡ t
   -- an allowed text is a short list of bytes
   pub short : (t : List ℕ) → k.allowed t ≡ true → length t ≤ text_limit
-  pub bytes : (t : List ℕ) → k.allowed t ≡ true → All (λ b. b < 256) t
+  pub bytes : (t : List ℕ) → k.allowed t ≡ true → AllByRecursion (λ b. b < 256) t
 
 abbrev pub rest_record : {R : Type 0} → Kind R → R
 rest_record k = k.raw k.rest

@@ -1,7 +1,7 @@
 -- A delta's values written one behind another, with a pipe before each.
 use Rattle.std.proofs.Common.{◌≡◌, ℕ, suc, ◌+◌, ◌-◌, ◌*◌, ◌<◌, ◌≤◌, leb, ◌⊎◌, List, [], ◌∷◌, ◌++◌, map, length, get_or, take, drop, Ok, sym, refl, ap, ◌∙◌, subst, ⊎_elim, append_assoc, add-one, arith}
 use native.Mathlib.Nat.{sub-zero}
-use Rattle.std.specs.List.{AllByRecursion as All}
+use Rattle.std.specs.List.{AllByRecursion}
 use Rattle.std.proofs.lemmas.List.{length-append, length-replicate, length-map, length-take-le, drop_more, drop_all}
 use Rattle.std.proofs.lemmas.Slice.{between_is}
 use Rattle.std.proofs.lemmas.Bool.{cond_both}
@@ -120,7 +120,7 @@ module _ {R : Type 0} (k : Kind R) where
     pub before-is : {i run n a m : ℕ} {ys zs : List ℕ} → a ≡ run → m ≡ n → zs ≡ ys → Before i run n ys → Before i a m zs
     before-is {i} {run} {n} {a} {m} {ys} {zs} p q e h = subst (Before i a m) (sym e) (subst (λ j. Before i a j ys) (sym q) (subst (λ j. Before i j n ys) (sym p) h))
 
-  all-allowed : Lawful k → (cs : List (Change R)) → All (Allowed k.allowed) (map (change_of k) cs)
+  all-allowed : Lawful k → (cs : List (Change R)) → AllByRecursion (Allowed k.allowed) (map (change_of k) cs)
   all-allowed law [] = tt
   all-allowed law (c ∷ cs) = (allowed c.mark c.raw, all-allowed law cs)
     where

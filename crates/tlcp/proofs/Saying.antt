@@ -1,7 +1,7 @@
 -- Lines: the reader of `specs/Lines` against which bytes say which message.
 use Rattle.std.proofs.Common.{◌≡◌, ℕ, suc, ◌+◌, ◌^◌, ◌<◌, ◌≤◌, Bool, true, false, cond, eqb, leb, List, [], ◌∷◌, ◌++◌, length, drop, Some, None, Ok, Err, Option, Result, sym, refl, ap, ◌∙◌, subst, ⊎_elim, arith}
 use Rattle.std.specs.Option.{option_map}
-use Rattle.std.specs.List.{AllByRecursion as All}
+use Rattle.std.specs.List.{AllByRecursion}
 use Rattle.std.proofs.lemmas.List.{length-append, take_at, drop_at, drop-drop}
 use Rattle.std.proofs.lemmas.Bool.{and_parts, or_parts, or_from, cases_Bool, eqb-true, leb-true, le-leb, le-ltb, lt-ltb, cond-true, cond-false}
 use Rattle.row.specs.declared.fault.Fault.{Fault}
@@ -85,7 +85,7 @@ Bounded text = Unit {0}
 Bounded list = Unit {0}
 
 -- what holds of each tag
-known : (t : Tag) → (tag_of (word t) ≡ Some t) × (has_comma (word t) ≡ false) × All Bounded (sorts t)
+known : (t : Tag) → (tag_of (word t) ≡ Some t) × (has_comma (word t) ≡ false) × AllByRecursion Bounded (sorts t)
 known U = (refl, refl, omega arith)
 known Probe = (refl, refl, omega arith)
 known Sync = (refl, refl, omega arith)
@@ -200,9 +200,9 @@ module _ (R : List Sort → ℕ → List Argument → List ℕ → Type 0)
       t e
 
 module _ (escapes : ReadsEscapes) where
-  laid-read : (ks : List Sort) (end at : ℕ) (o : Option (List ℕ)) (args : List Argument) → arguments_of ks end (here at o) ≡ Ok args → All Bounded ks → Laid ks at args (tail_of o)
+  laid-read : (ks : List Sort) (end at : ℕ) (o : Option (List ℕ)) (args : List Argument) → arguments_of ks end (here at o) ≡ Ok args → AllByRecursion Bounded ks → Laid ks at args (tail_of o)
   laid-read =
-      by-reading (λ ks at args s. All Bounded ks → Laid ks at args s) (λ at bound. none)
+      by-reading (λ ks at args s. AllByRecursion Bounded ks → Laid ks at args s) (λ at bound. none)
       (λ k at a x read bound.
       let is = piece-read k _ a read in
       subst (λ y. Laid (k ∷ []) at (a ∷ []) (44 ∷ y)) (ap (λ p. p.text) is) (last (argument-read escapes k bound.0 _ a read) (ap (λ p. p.at) is)))
@@ -212,7 +212,7 @@ module _ (escapes : ReadsEscapes) where
       (more (argument-read escapes k bound.0 _ a read) (ap (λ p. p.at) is))
       plain (behind bound.1))
 
-  read-laid : {ks : List Sort} {at : ℕ} {args : List Argument} {s : List ℕ} → Laid ks at args s → All Bounded ks → (end : ℕ) → (o : Option (List ℕ)) × (s ≡ tail_of o) × (arguments_of ks end (here at o) ≡ Ok args)
+  read-laid : {ks : List Sort} {at : ℕ} {args : List Argument} {s : List ℕ} → Laid ks at args s → AllByRecursion Bounded ks → (end : ℕ) → (o : Option (List ℕ)) × (s ≡ tail_of o) × (arguments_of ks end (here at o) ≡ Ok args)
   read-laid none bound end = (None, refl, refl)
   read-laid (last {k = k} {at = at} {a = a} kept is) bound end =
       (Some (piece_of a).text, refl, ap (λ r. and_then r (λ b. ahead b (Ok []))) (ap (λ n. read_argument k (piece (piece_of a).text n)) (sym is) ∙ read-argument escapes k bound.0 a kept))
@@ -231,9 +231,9 @@ module _ (escapes : ReadsEscapes) where
 abbrev Within : ℕ → Argument → Type 0
 Within limit a = (piece_of a).at + length (piece_of a).text ≤ limit
 
-within-read : (limit : ℕ) (ks : List Sort) (end at : ℕ) (o : Option (List ℕ)) (args : List Argument) → arguments_of ks end (here at o) ≡ Ok args → at + length (tail_of o) ≤ limit → All (Within limit) args
+within-read : (limit : ℕ) (ks : List Sort) (end at : ℕ) (o : Option (List ℕ)) (args : List Argument) → arguments_of ks end (here at o) ≡ Ok args → at + length (tail_of o) ≤ limit → AllByRecursion (Within limit) args
 within-read limit =
-    by-reading (λ ks at args s. at + length s ≤ limit → All (Within limit) args) (λ at h. tt)
+    by-reading (λ ks at args s. at + length s ≤ limit → AllByRecursion (Within limit) args) (λ at h. tt)
     (λ k at a x read h. (inside k at a x read (omega arith), tt))
     (λ k j ks at a others x s read plain behind h. let long = length-append x s in (inside k at a x read (omega arith), behind (omega arith)))
   where
@@ -301,9 +301,9 @@ reads-said escapes s m = (parted (λ t. read_line t ≡ Ok m → Says t m) says 
         ∙ read-line t o m.args (omega (arith, ap length line, h.short)) (ap (λ n. arguments_of (sorts t) n (here (length (word t)) o)) (ap length (sym line)) ∙ args)
         ∙ ap (λ n. Ok (record { tag = t; name = n; args = m.args })) (sym h.name)
 
-pub update-within : (s : List ℕ) (m : Message) → read_line s ≡ Ok m → All (λ a. (piece_of a).at + length (piece_of a).text ≤ line_limit) m.args
+pub update-within : (s : List ℕ) (m : Message) → read_line s ≡ Ok m → AllByRecursion (λ a. (piece_of a).at + length (piece_of a).text ≤ line_limit) m.args
 update-within s m =
-    parted (λ t. read_line t ≡ Ok m → All (Within line_limit) m.args)
+    parted (λ t. read_line t ≡ Ok m → AllByRecursion (Within line_limit) m.args)
     (λ x o plain e.
     let (short, is, name, args) = line_read m x o plain e in
     within-read line_limit (sorts m.tag) _ (length x) o m.args args (omega (arith, length-append x (tail_of o))))

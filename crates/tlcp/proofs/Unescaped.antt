@@ -1,6 +1,6 @@
 -- Escapes: what decoding makes of them, and that a text as content is that text with some bytes escaped.
 use Rattle.std.proofs.Common.{◌≡◌, ℕ, ◌+◌, ◌*◌, ◌/◌, ◌%◌, ◌<◌, ◌≤◌, Bool, true, false, cond, ◌&&◌, eqb, List, [], ◌∷◌, ◌++◌, length, None, refl, ap, ◌∙◌, subst, arith}
-use Rattle.std.specs.List.{AllByRecursion as All}
+use Rattle.std.specs.List.{AllByRecursion}
 use Rattle.std.proofs.lemmas.List.{length-append}
 use Rattle.std.proofs.lemmas.Bool.{cond_both, cond-true, cond-false, and_parts, and_from, or_parts, or_from, eqb-true}
 use Rattle.std.proofs.lemmas.Bool.Decides.{nat_tests}
@@ -71,11 +71,11 @@ decodes-spelled true b {s} {t} small other r =
 plain-percent : (b : ℕ) → is_escaped b ≡ false → eqb b 37 ≡ false
 plain-percent b e = grind (arith, nat_tests)
 
-decodes-rest : (t : List ℕ) → All (λ b. b < 256) t → Decodes (encode_rest t) t
+decodes-rest : (t : List ℕ) → AllByRecursion (λ b. b < 256) t → Decodes (encode_rest t) t
 decodes-rest [] h = nothing
 decodes-rest (b ∷ t) h = decodes-spelled (is_escaped b) b h.0 (plain-percent b) (decodes-rest t h.1)
 
-pub decodes-encode : (t : List ℕ) → All (λ b. b < 256) t → Decodes (encode t) t
+pub decodes-encode : (t : List ℕ) → AllByRecursion (λ b. b < 256) t → Decodes (encode t) t
 decodes-encode [] h = nothing
 decodes-encode (b ∷ t) h = decodes-spelled (is_escaped_first b) b h.0 (λ e. plain-percent b (or_parts (is_escaped b) _ e).0) (decodes-rest t h.1)
 
@@ -94,12 +94,12 @@ no-pipe-spelled true b small other =
 plain-pipe : (b : ℕ) → is_escaped b ≡ false → eqb b 124 ≡ false
 plain-pipe b e = grind (arith, nat_tests)
 
-no-pipe-rest : (t : List ℕ) → All (λ b. b < 256) t → has_pipe (encode_rest t) ≡ false
+no-pipe-rest : (t : List ℕ) → AllByRecursion (λ b. b < 256) t → has_pipe (encode_rest t) ≡ false
 no-pipe-rest [] h = refl
 no-pipe-rest (b ∷ t) h = no-pipe-append (spelled (is_escaped b) b) (encode_rest t) (no-pipe-spelled (is_escaped b) b h.0 (plain-pipe b)) (no-pipe-rest t h.1)
 
 -- not of numbers above 255: the first hexadecimal digit of 1104 would be a pipe
-pub no-pipe-encode : (t : List ℕ) → All (λ b. b < 256) t → has_pipe (encode t) ≡ false
+pub no-pipe-encode : (t : List ℕ) → AllByRecursion (λ b. b < 256) t → has_pipe (encode t) ≡ false
 no-pipe-encode [] h = refl
 no-pipe-encode (b ∷ t) h =
     no-pipe-append (spelled (is_escaped_first b) b) (encode_rest t)

@@ -1,6 +1,6 @@
 -- Deltas written as value lists: what is written means the delta, and is short.
 use Rattle.std.proofs.Common.{◌≡◌, ℕ, zero, suc, ◌+◌, ◌*◌, ◌^◌, ◌<◌, ◌≤◌, Bool, true, false, eqb, leb, List, [], ◌∷◌, ◌++◌, length, replicate, decimal, sym, refl, ap, subst, append_assoc, append-nil, arith}
-use Rattle.std.specs.List.{AllByRecursion as All}
+use Rattle.std.specs.List.{AllByRecursion}
 use Rattle.std.proofs.lemmas.Fmt.{decimal_by_steps, length-decimal-le_succ}
 use Rattle.std.proofs.lemmas.List.{length-append, length-drop}
 use Rattle.std.proofs.lemmas.Bool.{cond_both, and_left, or_from, leb-false}
@@ -27,7 +27,7 @@ no-pipe-decimal =
     digit : (n : ℕ) → n < 10 → has_pipe ((48 + n) ∷ []) ≡ false
     digit n small = or_from (eqb (48 + n) 124) false (grind (arith, nat_tests)) refl
 
-text-apart : (t : List ℕ) → All (λ b. b < 256) t → has_pipe (text_value t) ≡ false
+text-apart : (t : List ℕ) → AllByRecursion (λ b. b < 256) t → has_pipe (text_value t) ≡ false
 text-apart [] bytes = refl
 text-apart (b ∷ t) bytes = no-pipe-encode (b ∷ t) bytes
 
@@ -66,7 +66,7 @@ module _ (allowed : List ℕ → Bool) where
       empties zero = clear_none
       empties (suc k) = clear_next unchanged refl (empties k)
 
-  text-means : (t : List ℕ) → allowed t ≡ true → All (λ b. b < 256) t → Means allowed (text_value t) (becomes (value t) ∷ [])
+  text-means : (t : List ℕ) → allowed t ≡ true → AllByRecursion (λ b. b < 256) t → Means allowed (text_value t) (becomes (value t) ∷ [])
   text-means [] e bytes = empty e
   text-means (b ∷ t) e bytes =
       let c = encode-content b t in
@@ -74,7 +74,7 @@ module _ (allowed : List ℕ → Bool) where
       (content c.no-caret (and_left _ _ c.no-hash) (and_left _ _ c.no-dollar) (subst (λ s. Decodes s (b ∷ t)) c.is (decodes-encode (b ∷ t) bytes)) e)
 
   -- behind a run of n same
-  clear-written : ((t : List ℕ) → allowed t ≡ true → All (λ b. b < 256) t) → (d : List Change) (n : ℕ) → n + length d ≤ field_limit → All (Allowed allowed) d → Clear (written_values n d) (replicate n same ++ d)
+  clear-written : ((t : List ℕ) → allowed t ≡ true → AllByRecursion (λ b. b < 256) t) → (d : List Change) (n : ℕ) → n + length d ≤ field_limit → AllByRecursion (Allowed allowed) d → Clear (written_values n d) (replicate n same ++ d)
   clear-written bytes [] n few all = rw append-nil (clear-run n (omega arith))
   clear-written bytes (same ∷ d) n few all = rw replicate-through (clear-written bytes d (suc n) (omega arith) all.1)
   clear-written bytes (becomes null ∷ d) n few all =
@@ -111,7 +111,7 @@ pub length-text : (t : List ℕ) → length t ≤ text_limit → length (text_va
 length-text [] h = omega arith
 length-text (b ∷ t) h = omega (arith, length-encode (b ∷ t))
 
-short : (allowed : List ℕ → Bool) → ((t : List ℕ) → allowed t ≡ true → length t ≤ text_limit) → (d : List Change) (n : ℕ) → n + length d ≤ field_limit → All (Allowed allowed) d → length (each_piped (written_values n d)) ≤ field_room * (n + length d)
+short : (allowed : List ℕ → Bool) → ((t : List ℕ) → allowed t ≡ true → length t ≤ text_limit) → (d : List Change) (n : ℕ) → n + length d ≤ field_limit → AllByRecursion (Allowed allowed) d → length (each_piped (written_values n d)) ≤ field_room * (n + length d)
 short allowed small [] n few all = omega (arith, short-run n (omega arith))
 short allowed small (same ∷ d) n few all = omega (arith, short allowed small d (suc n) (omega arith) all.1)
 short allowed small (becomes null ∷ d) n few all =

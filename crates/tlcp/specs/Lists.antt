@@ -1,6 +1,6 @@
 -- Value lists: what a list of values says of a row, and how a delta is written as one.
 use Rattle.std.specs.Prelude.{◌≡◌, ℕ, suc, ◌+◌, ◌-◌, ◌*◌, ◌<◌, ◌≤◌, Bool, true, false, cond, ◌&&◌, ◌||◌, List, [], ◌∷◌, ◌++◌, map, length, drop, replicate, Some, None, Ok, Err, decimal, Option, Result, ◌==◌, nat_le}
-use Rattle.std.specs.List.{flat_map, AllByRecursion as All}
+use Rattle.std.specs.List.{flat_map, AllByRecursion}
 use Rattle.row.specs.Limits.{field_limit, text_limit}
 use Rattle.row.specs.Rows.{Change, same, becomes, null, value}
 use Rattle.row.specs.declared.fault.Fault.{Fault}
@@ -161,13 +161,13 @@ Allowed allowed (becomes (value t)) = allowed t ≡ true
 -- reading what was written gives the same delta
 abbrev pub ReadsWritten : Type 0
 ReadsWritten =
-    (allowed : List ℕ → Bool) → ((t : List ℕ) → allowed t ≡ true → All (λ b. b < 256) t)
-    → (d : List Change) → 1 ≤ length d → length d ≤ field_limit → All (Allowed allowed) d
+    (allowed : List ℕ → Bool) → ((t : List ℕ) → allowed t ≡ true → AllByRecursion (λ b. b < 256) t)
+    → (d : List Change) → 1 ≤ length d → length d ≤ field_limit → AllByRecursion (Allowed allowed) d
     → read_list allowed (length d) (written_list d) ≡ Ok d
 
 -- a list is short: for each field at most a pipe and a text whose bytes are all escaped
 abbrev pub WrittenShort : Type 0
 WrittenShort =
     (allowed : List ℕ → Bool) → ((t : List ℕ) → allowed t ≡ true → length t ≤ text_limit)
-    → (d : List Change) → 1 ≤ length d → length d ≤ field_limit → All (Allowed allowed) d
+    → (d : List Change) → 1 ≤ length d → length d ≤ field_limit → AllByRecursion (Allowed allowed) d
     → length (written_list d) + 1 ≤ (3 * text_limit + 1) * length d

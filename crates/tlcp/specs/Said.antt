@@ -1,7 +1,7 @@
 -- What the reader's answers say.
 use Rattle.std.specs.Prelude.{◌≡◌, ℕ, ◌+◌, ◌≤◌, List, [], ◌∷◌, length, Ok, Err, Option, Result}
 use Rattle.std.specs.Option.{option_map}
-use Rattle.std.specs.List.{AllByRecursion as All}
+use Rattle.std.specs.List.{AllByRecursion}
 use Rattle.row.specs.declared.fault.Refusal.{Refusal}
 use Rattle.tlcp.specs.Limits.{line_limit}
 use Rattle.tlcp.specs.Lines.{Argument, numbered, coded, worded, listed, Message, arguments_of, message_of, piece, piece_of, sorts}
@@ -91,4 +91,4 @@ Tells t end tail r = (name : Piece) → on_ok (message_in name) r ≡ message_of
 
 -- the arguments lie in a line
 abbrev pub AllInLine : List Argument → Type 0
-AllInLine args = All (λ a. (piece_of a).at + length (piece_of a).text ≤ line_limit) args
+AllInLine args = AllByRecursion (λ a. (piece_of a).at + length (piece_of a).text ≤ line_limit) args

@@ -18,8 +18,8 @@ pub(crate) const UNCOVERED: Refusal = Refusal {
 
 // A text in the place of a value.
 fn read_text<R: Value>(text: &[u8], slot: &mut Change<R>) -> Result<usize, Refusal>
-    ensures answer { result ≡ size_or (read_text kind.allowed text.now) }
-    ensures change { slot.new ≡ slot_after kind (read_text kind.allowed text.now) slot.old }
+    ensures answer { result ≡ size_or (read_text R.kind.allowed text.now) }
+    ensures change { slot.new ≡ slot_after R.kind (read_text R.kind.allowed text.now) slot.old }
     ensures within { IfErr result (λ e. e.place ≡ 0) }
 {
     match R::read(text) {
@@ -39,8 +39,8 @@ fn read_text<R: Value>(text: &[u8], slot: &mut Change<R>) -> Result<usize, Refus
 
 // A value that is neither empty nor one of the marks.
 fn read_content<R: Value>(value: &[u8], slot: &mut Change<R>) -> Result<usize, Refusal>
-    ensures answer { result ≡ size_or (read_content kind.allowed value.now) }
-    ensures change { slot.new ≡ slot_after kind (read_content kind.allowed value.now) slot.old }
+    ensures answer { result ≡ size_or (read_content R.kind.allowed value.now) }
+    ensures change { slot.new ≡ slot_after R.kind (read_content R.kind.allowed value.now) slot.old }
     ensures within { IfErr result (λ e. e.place ≤ length value.now) }
 {
     // most values have no escape, and need no buffer
@@ -64,8 +64,8 @@ fn read_content<R: Value>(value: &[u8], slot: &mut Change<R>) -> Result<usize, R
 // One value. Answers how many fields it speaks of, and sets the change of the first one unless they are same.
 // Places are counted from the value's first byte.
 fn read_value<R: Value>(value: &[u8], slot: &mut Change<R>) -> Result<usize, Refusal>
-    ensures answer { result ≡ size_or (read_value kind.allowed value.now) }
-    ensures change { slot.new ≡ slot_after kind (read_value kind.allowed value.now) slot.old }
+    ensures answer { result ≡ size_or (read_value R.kind.allowed value.now) }
+    ensures change { slot.new ≡ slot_after R.kind (read_value R.kind.allowed value.now) slot.old }
     ensures within { IfErr result (λ e. e.place ≤ length value.now) }
 {
     match value {
@@ -91,9 +91,9 @@ fn read_value<R: Value>(value: &[u8], slot: &mut Change<R>) -> Result<usize, Ref
 
 // Reads the values one after another into a delta that is all same.
 fn read_values<R: Value>(list: &[u8], fields: usize, delta: &mut [Change<R>]) -> Result<(), Refusal>
-    requires { (fields ≤ field_limit) × (delta.old ≡ held_delta kind (Err uncovered)) }
-    ensures answer { result ≡ answer_of (read_values kind.allowed 0 fields (values list.now)) }
-    ensures changes { is_ok result ≡ true → delta.new ≡ held_delta kind (read_values kind.allowed 0 fields (values list.now)) }
+    requires { (fields ≤ field_limit) × (delta.old ≡ held_delta R.kind (Err uncovered)) }
+    ensures answer { result ≡ answer_of (read_values R.kind.allowed 0 fields (values list.now)) }
+    ensures changes { is_ok result ≡ true → delta.new ≡ held_delta R.kind (read_values R.kind.allowed 0 fields (values list.now)) }
     ensures within { IfErr result (λ e. e.place ≤ length list.now) }
 {
     let mut covered = 0;
@@ -132,8 +132,8 @@ pub fn read_list<R: Value>(
     fields: usize,
     delta: &mut [Change<R>],
 ) -> Result<(), Refusal>
-    ensures answer { result ≡ (if nat_eq (length delta.old) field_limit then answer_of (read_list kind.allowed fields list.now) else Err memory_refusal) }
-    ensures changes { delta.new ≡ (if nat_eq (length delta.old) field_limit then held_delta kind (read_list kind.allowed fields list.now) else delta.old) }
+    ensures answer { result ≡ (if nat_eq (length delta.old) field_limit then answer_of (read_list R.kind.allowed fields list.now) else Err memory_refusal) }
+    ensures changes { delta.new ≡ (if nat_eq (length delta.old) field_limit then held_delta R.kind (read_list R.kind.allowed fields list.now) else delta.old) }
     ensures within { IfErr result (λ e. e.place ≤ length list.now) }
     ensures spelled { ReadsSpelled }
 {

@@ -92,7 +92,7 @@ fn append_run(out: &mut [u8], n: usize, run: usize) -> usize
 // The value of a change, behind a pipe. One that is same has none of its own.
 fn append_change<R: Value>(out: &mut [u8], n: usize, change: &Change<R>) -> usize
     requires { n + field_room ≤ length out.old }
-    ensures { Appended n out.old (each_piped (values_of (change_of kind change.now))) result out.new }
+    ensures { Appended n out.old (each_piped (values_of (change_of R.kind change.now))) result out.new }
 {
     match change.mark {
         Mark::Same => n,
@@ -110,7 +110,7 @@ fn append_change<R: Value>(out: &mut [u8], n: usize, change: &Change<R>) -> usiz
 fn append_values<R: Value>(out: &mut [u8], delta: &[Change<R>]) -> usize
     requires few { length delta.now ≤ field_limit }
     requires room { field_room * field_limit ≤ length out.old }
-    ensures values { Appended 0 out.old (each_piped (written_values 0 (map (change_of kind) delta.now))) result out.new }
+    ensures values { Appended 0 out.old (each_piped (written_values 0 (map (change_of R.kind) delta.now))) result out.new }
     ensures bound { result ≤ field_room * field_limit }
 {
     let mut end = 0;
@@ -135,9 +135,9 @@ pub fn write_list<R: Value>(
     delta: &[Change<R>],
     fields: usize,
 ) -> Result<usize, Refusal>
-    ensures answer { result ≡ list_answer kind delta.now fields at out.old }
-    ensures bytes { out.new ≡ list_placed kind delta.now fields at out.old }
-    ensures read_back { ReadBack kind delta.now fields }
+    ensures answer { result ≡ list_answer R.kind delta.now fields at out.old }
+    ensures bytes { out.new ≡ list_placed R.kind delta.now fields at out.old }
+    ensures read_back { ReadBack R.kind delta.now fields }
 {
     if delta.len() != FIELD_LIMIT {
         return Err(Refusal::MEMORY);

@@ -28,7 +28,7 @@ pub struct Viewer {
 // No update came.
 fn clear<R: Value>(delta: &mut [Change<R>])
     requires { length delta.old ≡ field_limit }
-    ensures { delta.new ≡ blank_delta kind }
+    ensures { delta.new ≡ blank_delta R.kind }
 {
     blank(delta);
 }
@@ -60,9 +60,9 @@ impl Viewer {
     // Sets the entry with an ID anew, open or not, and makes its cells null.
     fn set_entry<R: Value>(&mut self, id: u32, entry: Entry, cells: &mut [Cell<R>]) -> Heard
         requires { length cells.old ≡ cell_limit }
-        ensures entries { self.new.entries ≡ (set_entry kind self.old.entries cells.old entry (find_entry Any id self.old.entries)).entries }
-        ensures cells { cells.new ≡ (set_entry kind self.old.entries cells.old entry (find_entry Any id self.old.entries)).cells }
-        ensures answer { Ok result ≡ (set_entry kind self.old.entries cells.old entry (find_entry Any id self.old.entries)).answer }
+        ensures entries { self.new.entries ≡ (set_entry R.kind self.old.entries cells.old entry (find_entry Any id self.old.entries)).entries }
+        ensures cells { cells.new ≡ (set_entry R.kind self.old.entries cells.old entry (find_entry Any id self.old.entries)).cells }
+        ensures answer { Ok result ≡ (set_entry R.kind self.old.entries cells.old entry (find_entry Any id self.old.entries)).answer }
     {
         let Some(i) = find_entry(&self.entries, Wanted::Any, id) else {
             return Heard::Passed;
@@ -81,9 +81,9 @@ impl Viewer {
         delta: &mut [Change<R>],
     ) -> Result<Heard, Refusal>
         requires { (length cells.old ≡ cell_limit) × ((length delta.old ≡ field_limit) × (InLine values)) }
-        ensures cells { cells.new ≡ (update kind self.now.entries cells.old (piece_in values.entry) (find_entry Open id self.now.entries)).cells }
-        ensures changes { delta.new ≡ (update kind self.now.entries cells.old (piece_in values.entry) (find_entry Open id self.now.entries)).delta }
-        ensures answer { result ≡ (update kind self.now.entries cells.old (piece_in values.entry) (find_entry Open id self.now.entries)).answer }
+        ensures cells { cells.new ≡ (update R.kind self.now.entries cells.old (piece_in values.entry) (find_entry Open id self.now.entries)).cells }
+        ensures changes { delta.new ≡ (update R.kind self.now.entries cells.old (piece_in values.entry) (find_entry Open id self.now.entries)).delta }
+        ensures answer { result ≡ (update R.kind self.now.entries cells.old (piece_in values.entry) (find_entry Open id self.now.entries)).answer }
     {
         let Some(i) = find_entry(&self.entries, Wanted::Open, id) else {
             clear(delta);
@@ -110,10 +110,10 @@ impl Viewer {
         delta: &mut [Change<R>],
     ) -> Result<Heard, Refusal>
         requires { (length cells.old ≡ cell_limit) × ((length delta.old ≡ field_limit) × (AllInLine (arguments_in says))) }
-        ensures entries { self.new.entries ≡ (hear_effect kind self.old.entries cells.old (effect_of (tag_in says.entry) (arguments_in says.entry))).entries }
-        ensures cells { cells.new ≡ (hear_effect kind self.old.entries cells.old (effect_of (tag_in says.entry) (arguments_in says.entry))).cells }
-        ensures changes { delta.new ≡ (hear_effect kind self.old.entries cells.old (effect_of (tag_in says.entry) (arguments_in says.entry))).delta }
-        ensures answer { result ≡ (hear_effect kind self.old.entries cells.old (effect_of (tag_in says.entry) (arguments_in says.entry))).answer }
+        ensures entries { self.new.entries ≡ (hear_effect R.kind self.old.entries cells.old (effect_of (tag_in says.entry) (arguments_in says.entry))).entries }
+        ensures cells { cells.new ≡ (hear_effect R.kind self.old.entries cells.old (effect_of (tag_in says.entry) (arguments_in says.entry))).cells }
+        ensures changes { delta.new ≡ (hear_effect R.kind self.old.entries cells.old (effect_of (tag_in says.entry) (arguments_in says.entry))).delta }
+        ensures answer { result ≡ (hear_effect R.kind self.old.entries cells.old (effect_of (tag_in says.entry) (arguments_in says.entry))).answer }
     {
         match says {
             Notification::Subok {
@@ -152,10 +152,10 @@ impl Viewer {
         cells: &mut [Cell<R>],
         delta: &mut [Change<R>],
     ) -> Result<Heard, Refusal>
-        ensures entries { self.new.entries ≡ (heard kind self.old.entries cells.old delta.old line.now).entries }
-        ensures cells { cells.new ≡ (heard kind self.old.entries cells.old delta.old line.now).cells }
-        ensures changes { delta.new ≡ (heard kind self.old.entries cells.old delta.old line.now).delta }
-        ensures answer { result ≡ (heard kind self.old.entries cells.old delta.old line.now).answer }
+        ensures entries { self.new.entries ≡ (heard R.kind self.old.entries cells.old delta.old line.now).entries }
+        ensures cells { cells.new ≡ (heard R.kind self.old.entries cells.old delta.old line.now).cells }
+        ensures changes { delta.new ≡ (heard R.kind self.old.entries cells.old delta.old line.now).delta }
+        ensures answer { result ≡ (heard R.kind self.old.entries cells.old delta.old line.now).answer }
     {
         if cells.len() != CELL_LIMIT || delta.len() != FIELD_LIMIT {
             return Err(Refusal::MEMORY);

@@ -13,7 +13,7 @@ pub const CELL_LIMIT: usize = 96;
 // Makes a tap's row null.
 pub(crate) fn clear_row<R: Value>(cells: &mut [Cell<R>], i: usize)
     requires { (i < tap_limit) × (length cells.old ≡ cell_limit) }
-    ensures { cells.new ≡ null_row kind i cells.old }
+    ensures { cells.new ≡ null_row R.kind i cells.old }
 {
     let at = FIELD_LIMIT * i;
     nullify(&mut cells[at..at + FIELD_LIMIT]);

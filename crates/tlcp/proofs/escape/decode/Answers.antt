@@ -10,12 +10,12 @@ loop-left-init c =
     let none : 0 ≡ length c.args.s.now - length c.args.s.now = omega arith in
     ([], refl, omega arith, overlaid-none c.args.out.now, ap (λ n. decode_at n c.args.s.now) none)
 
-pub returns-in-default : goal.returns-in-default
-returns-in-default c =
+pub returns-in_default : goal.returns-in_default
+returns-in_default c =
     let s = c.args.s.now in
     let left = c.loop-left.left.now in
     let t = c.loop-left.invariant.0 in
-    let stop : decode_at (length s - length left) left ≡ stopped (length s - length left) = unit-step _ left (omega arith) ∙ ap (go_on _ (length left)) (sym c.in-default.ensures) in
+    let stop : decode_at (length s - length left) left ≡ stopped (length s - length left) = unit-step _ left (omega arith) ∙ ap (go_on _ (length left)) (sym c.in_default.ensures) in
     let all : decoded s ≡ onto t (stopped (length s - length left)) = c.loop-left.invariant.4 ∙ ap (onto t) stop in
     record {
       answer = sym (ap decode_answer all);

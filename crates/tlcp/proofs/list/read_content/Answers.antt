@@ -6,14 +6,14 @@ use Rattle.tlcp.proofs.list.read_content.Goals as goal
 
 pub returns-then-find-value : goal.returns-then-find-value
 returns-then-find-value g c = record {
-  answer = c.read-text.ensures.answer ∙ ap size_or (plain-read g.row.R-Value.kind.allowed c.args.value.now c.find.result c.find.ensures.value c.if-find-value.true);
-  change = c.read-text.ensures.change ∙ ap (λ r. slot_after g.row.R-Value.kind r c.args.slot.now) (plain-read g.row.R-Value.kind.allowed c.args.value.now c.find.result c.find.ensures.value c.if-find-value.true);
-  within = MatchResult-weaker c.read-text.result c.read-text.ensures.within (λ x h. tt) (λ y h. omega arith);
+  answer = c.read_text.ensures.answer ∙ ap size_or (plain-read g.R.Value.kind.allowed c.args.value.now c.find.result c.find.ensures.value c.if-find-value.true);
+  change = c.read_text.ensures.change ∙ ap (λ r. slot_after g.R.Value.kind r c.args.slot.now) (plain-read g.R.Value.kind.allowed c.args.value.now c.find.result c.find.ensures.value c.if-find-value.true);
+  within = MatchResult-weaker c.read_text.result c.read_text.ensures.within (λ x h. tt) (λ y h. omega arith);
 }
 
 pub returns-in-Ok : goal.returns-in-Ok
 returns-in-Ok g c = record {
-  answer = c.read-text_in-Ok.ensures.answer ∙ ap size_or (decoded-read g.row.R-Value.kind.allowed c.args.value.now c.in-Ok.n (replicate 32 0) c.decode.new.out c.in-Ok.ensures.answer c.in-Ok.ensures.bytes (omega arith));
-  change = c.read-text_in-Ok.ensures.change ∙ ap (λ r. slot_after g.row.R-Value.kind r c.args.slot.now) (decoded-read g.row.R-Value.kind.allowed c.args.value.now c.in-Ok.n (replicate 32 0) c.decode.new.out c.in-Ok.ensures.answer c.in-Ok.ensures.bytes (omega arith));
-  within = MatchResult-weaker c.read-text_in-Ok.result c.read-text_in-Ok.ensures.within (λ x h. tt) (λ y h. omega arith);
+  answer = c.read_text-in-Ok.ensures.answer ∙ ap size_or (decoded-read g.R.Value.kind.allowed c.args.value.now c.in-Ok.n (replicate 32 0) c.decode.new.out c.in-Ok.ensures.answer c.in-Ok.ensures.bytes (omega arith));
+  change = c.read_text-in-Ok.ensures.change ∙ ap (λ r. slot_after g.R.Value.kind r c.args.slot.now) (decoded-read g.R.Value.kind.allowed c.args.value.now c.in-Ok.n (replicate 32 0) c.decode.new.out c.in-Ok.ensures.answer c.in-Ok.ensures.bytes (omega arith));
+  within = MatchResult-weaker c.read_text-in-Ok.result c.read_text-in-Ok.ensures.within (λ x h. tt) (λ y h. omega arith);
 }

@@ -5,14 +5,14 @@ use Rattle.tlcp.proofs.list.read_value.Goals as goal
 
 pub returns-in-Some : goal.returns-in-Some
 returns-in-Some g c = record {
-  answer = ap size_or (caret-read g.row.R-Value.kind.allowed c.args.value.now (Some c.in-Some.n) (search rules) (search rules) c.in-Some.ensures.value);
-  change = ap (λ r. slot_after g.row.R-Value.kind r c.args.slot.now) (caret-read g.row.R-Value.kind.allowed c.args.value.now (Some c.in-Some.n) (search rules) (search rules) c.in-Some.ensures.value);
+  answer = ap size_or (caret-read g.R.Value.kind.allowed c.args.value.now (Some c.in-Some.n) (search rules) (search rules) c.in-Some.ensures.value);
+  change = ap (λ r. slot_after g.R.Value.kind r c.args.slot.now) (caret-read g.R.Value.kind.allowed c.args.value.now (Some c.in-Some.n) (search rules) (search rules) c.in-Some.ensures.value);
   within = tt;
 }
 
 pub returns-in-None : goal.returns-in-None
 returns-in-None g c = record {
-  answer = ap size_or (caret-read g.row.R-Value.kind.allowed c.args.value.now None (search rules) (search rules) c.in-None.ensures.value);
-  change = ap (λ r. slot_after g.row.R-Value.kind r c.args.slot.now) (caret-read g.row.R-Value.kind.allowed c.args.value.now None (search rules) (search rules) c.in-None.ensures.value);
+  answer = ap size_or (caret-read g.R.Value.kind.allowed c.args.value.now None (search rules) (search rules) c.in-None.ensures.value);
+  change = ap (λ r. slot_after g.R.Value.kind r c.args.slot.now) (caret-read g.R.Value.kind.allowed c.args.value.now None (search rules) (search rules) c.in-None.ensures.value);
   within = omega arith;
 }

@@ -11,7 +11,7 @@ loop-b-preserved c =
     let i = c.loop-b.b-index in
     let b = get_or text i 0 in
     let t = c.loop-b.invariant.0 in
-    let more = c.append-byte-end.ensures in (
+    let more = c.append_byte-end.ensures in (
       t ++ spelled (is_escaped b) b,
       appended_then c.loop-b.invariant.1 more,
       rest_more text i t c.loop-b.invariant.2 c.loop-b-test.true,

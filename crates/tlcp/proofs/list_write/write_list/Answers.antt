@@ -5,25 +5,25 @@ use Rattle.tlcp.specs.Written.{covers, end_or, placed_or}
 use Rattle.tlcp.proofs.Deltas.{delta-some, delta-part, read_back}
 use Rattle.tlcp.proofs.list_write.write_list.Goals as goal
 
-pub slice-bounds-put-count : goal.slice-bounds-put-count
-slice-bounds-put-count g c =
-    delta-some g.row.R-Value.kind c.args.delta.now c.args.fields c.if-delta-ne-FIELD-LIMIT.false c.if-fields-gt-FIELD-LIMIT.false
-    c.append-values-end.ensures.values c.if-fields-eq0.false
+pub slice_bounds-put-count : goal.slice_bounds-put-count
+slice_bounds-put-count g c =
+    delta-some g.R.Value.kind c.args.delta.now c.args.fields c.if-delta-ne-FIELD_LIMIT.false c.if-fields-gt-FIELD_LIMIT.false
+    c.append_values-end.ensures.values c.if-fields-eq0.false
 
-pub slice-bounds-put-start : goal.slice-bounds-put-start
-slice-bounds-put-start g c =
-    delta-some g.row.R-Value.kind c.args.delta.now c.args.fields c.if-delta-ne-FIELD-LIMIT.false c.if-fields-gt-FIELD-LIMIT.false
-    c.append-values-end.ensures.values c.if-fields-eq0.false
+pub slice_bounds-put-start : goal.slice_bounds-put-start
+slice_bounds-put-start g c =
+    delta-some g.R.Value.kind c.args.delta.now c.args.fields c.if-delta-ne-FIELD_LIMIT.false c.if-fields-gt-FIELD_LIMIT.false
+    c.append_values-end.ensures.values c.if-fields-eq0.false
 
 pub returns : goal.returns
 returns g c =
-    let k = g.row.R-Value.kind in
+    let k = g.R.Value.kind in
     let delta = c.args.delta.now in
     let fields = c.args.fields in
     let out = c.args.out.now in
-    let long = eq-eqb _ field_limit c.if-delta-ne-FIELD-LIMIT.false in
+    let long = eq-eqb _ field_limit c.if-delta-ne-FIELD_LIMIT.false in
     let few : covers fields ≡ true = and_from _ _ (le-leb 1 fields (omega arith)) (le-leb fields field_limit (omega arith)) in
-    let list = delta-part k delta fields c.if-delta-ne-FIELD-LIMIT.false c.if-fields-gt-FIELD-LIMIT.false c.append-values-end.ensures.values in
+    let list = delta-part k delta fields c.if-delta-ne-FIELD_LIMIT.false c.if-fields-gt-FIELD_LIMIT.false c.append_values-end.ensures.values in
     record {
       answer = c.put.ensures.answer ∙ ap (λ t. end_or c.args.at t out) list ∙ sym (cond-true _ _ _ few) ∙ sym (cond-true _ _ _ long);
       bytes = c.put.ensures.bytes ∙ ap (λ t. placed_or c.args.at t out) list ∙ sym (cond-true _ _ _ few) ∙ sym (cond-true _ _ _ long);

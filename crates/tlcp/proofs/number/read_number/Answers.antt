@@ -4,20 +4,20 @@ use Rattle.tlcp.specs.Numbers.{digits_from}
 use Rattle.tlcp.proofs.Steps.{no_digit, too-high, digit-more, number_is, digits-all}
 use Rattle.tlcp.proofs.number.read_number.Goals as goal
 
-pub returns-then-not-is-of : goal.returns-then-not-is-of
-returns-then-not-is-of c = record {
+pub returns-then-not-is_of : goal.returns-then-not-is_of
+returns-then-not-is_of c = record {
   bound = tt;
   value =
-      number_is c.args.low c.args.high c.args.s.now None (sym c.if-is-misshapen.ensures)
-      (sym c.loop-b.invariant.1 ∙ no_digit c.args.high c.loop-b.value c.args.s.now c.loop-b.b-index c.loop-b-test.true (sym c.if-not-is-of.ensures));
+      number_is c.args.low c.args.high c.args.s.now None (sym c.if-is_misshapen.ensures)
+      (sym c.loop-b.invariant.1 ∙ no_digit c.args.high c.loop-b.value c.args.s.now c.loop-b.b-index c.loop-b-test.true (sym c.if-not-is_of.ensures));
 }
 
 pub returns-then-value-from : goal.returns-then-value-from
 returns-then-value-from c = record {
   bound = tt;
   value =
-      number_is c.args.low c.args.high c.args.s.now None (sym c.if-is-misshapen.ensures)
-      (sym c.loop-b.invariant.1 ∙ too-high c.args.high c.loop-b.value c.args.s.now c.loop-b.b-index c.loop-b-test.true (sym c.if-not-is-of.ensures) (omega arith));
+      number_is c.args.low c.args.high c.args.s.now None (sym c.if-is_misshapen.ensures)
+      (sym c.loop-b.invariant.1 ∙ too-high c.args.high c.loop-b.value c.args.s.now c.loop-b.b-index c.loop-b-test.true (sym c.if-not-is_of.ensures) (omega arith));
 }
 
 pub loop-b-preserved : goal.loop-b-preserved
@@ -25,7 +25,7 @@ loop-b-preserved c =
     let within : c.loop-b.value * 10 + c.from.result ≤ c.args.high = omega arith in (
       within,
       ap (λ d. digits_from c.args.high (c.loop-b.value * 10 + d) (drop (c.loop-b.b-index + 1) c.args.s.now)) c.from.ensures
-          ∙ sym (digit-more c.args.high c.loop-b.value c.args.s.now c.loop-b.b-index c.loop-b-test.true (sym c.if-not-is-of.ensures) (omega arith))
+          ∙ sym (digit-more c.args.high c.loop-b.value c.args.s.now c.loop-b.b-index c.loop-b-test.true (sym c.if-not-is_of.ensures) (omega arith))
           ∙ c.loop-b.invariant.1,
     )
 
@@ -34,7 +34,7 @@ returns-then-from-value c = record {
   bound = (omega arith, omega arith);
   value =
       sym (cond-true _ (Some c.loop-b.value) None (le-leb c.args.low c.loop-b.value (omega arith)))
-      ∙ number_is c.args.low c.args.high c.args.s.now (Some c.loop-b.value) (sym c.if-is-misshapen.ensures)
+      ∙ number_is c.args.low c.args.high c.args.s.now (Some c.loop-b.value) (sym c.if-is_misshapen.ensures)
       (sym c.loop-b.invariant.1 ∙ digits-all c.args.high c.loop-b.value c.args.s.now c.loop-b.b-index c.loop-b-test.false);
 }
 
@@ -43,6 +43,6 @@ returns-else-from-value c = record {
   bound = tt;
   value =
       sym (cond-false _ (Some c.loop-b.value) None (lt-leb c.args.low c.loop-b.value (omega arith)))
-      ∙ number_is c.args.low c.args.high c.args.s.now (Some c.loop-b.value) (sym c.if-is-misshapen.ensures)
+      ∙ number_is c.args.low c.args.high c.args.s.now (Some c.loop-b.value) (sym c.if-is_misshapen.ensures)
       (sym c.loop-b.invariant.1 ∙ digits-all c.args.high c.loop-b.value c.args.s.now c.loop-b.b-index c.loop-b-test.false);
 }

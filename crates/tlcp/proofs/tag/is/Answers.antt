@@ -1,8 +1,13 @@
-use Rattle.std.proofs.Common.{rules}
-use Rattle.std.proofs.lemmas.Slice.Eq.{compares_Decides, slice_eq-Decides}
+use Rattle.std.proofs.Common.{◌≡◌, ℕ, ◌&&◌, List, [], ◌∷◌, refl, ap, ◌∙◌, ◌==◌}
+use Rattle.std.specs.Str.{bytes_eq}
 use Rattle.tlcp.specs.Lines.{same_bytes}
 use Rattle.tlcp.proofs.tag.is.Goals as goal
-use Rattle.std.proofs.lemmas.Bool.Decides.{Decides-eqb}
+
+eq-same_bytes : (x y : List ℕ) → bytes_eq x y ≡ same_bytes x y
+eq-same_bytes [] [] = refl
+eq-same_bytes [] (y ∷ ys) = refl
+eq-same_bytes (x ∷ xs) [] = refl
+eq-same_bytes (x ∷ xs) (y ∷ ys) = ap (λ b. x == y && b) (eq-same_bytes xs ys)
 
 pub returns : goal.returns
-returns c = let h = slice_eq-Decides Decides-eqb _ _ _ c.eq.ensures in search (rules, compares_Decides same_bytes (search rules))
+returns c = c.eq.ensures ∙ eq-same_bytes c.args.s.now c.args.word.now

@@ -10,5 +10,5 @@ returns c =
     let fit = fitting c.args.at t xs (omega arith) in
     record {
       answer = sym (cond-true _ _ _ fit);
-      bytes = put-placed c.args.at _ xs _ t c.copy-from-slice.ensures.after (omega arith) ∙ sym (cond-true _ _ _ fit);
+      bytes = put-placed c.args.at _ xs _ t c.copy_from_slice.ensures.after (omega arith) ∙ sym (cond-true _ _ _ fit);
     }

@@ -7,15 +7,15 @@ use Rattle.tlcp.proofs.write.write_number.Goals as goal
 pub loop-left-init : goal.loop-left-init
 loop-left-init c = (omega arith, record { size = refl; low = omega arith; whole = sym (append-nil _) })
 
-pub overflow-sub-first : goal.overflow-sub-first
-overflow-sub-first c = digit_room c.args.n c.loop-left.left c.loop-left.first c.loop-left.digits c.loop-left.invariant.1 c.loop-left.invariant.0 (omega arith)
+pub overflow_sub-first : goal.overflow_sub-first
+overflow_sub-first c = digit_room c.args.n c.loop-left.left c.loop-left.first c.loop-left.digits c.loop-left.invariant.1 c.loop-left.invariant.0 (omega arith)
 
 pub loop-left-preserved : goal.loop-left-preserved
 loop-left-preserved c =
     (omega (arith, c.loop-left.invariant.0), digit-ahead c.args.n c.loop-left.left c.loop-left.first c.loop-left.digits c.loop-left.invariant.1 c.loop-left.invariant.0 (omega arith) (omega arith))
 
-pub overflow-sub-first-2 : goal.overflow-sub-first-2
-overflow-sub-first-2 c = digit_room c.args.n c.loop-left.left c.loop-left.first c.loop-left.digits c.loop-left.invariant.1 c.loop-left.invariant.0 (omega arith)
+pub overflow_sub-first-2 : goal.overflow_sub-first-2
+overflow_sub-first-2 c = digit_room c.args.n c.loop-left.left c.loop-left.first c.loop-left.digits c.loop-left.invariant.1 c.loop-left.invariant.0 (omega arith)
 
 pub returns : goal.returns
 returns c =

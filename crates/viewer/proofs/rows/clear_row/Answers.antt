@@ -9,4 +9,4 @@ returns g c =
     let i = c.args.i in
     let cells = c.args.cells.now in
     put-row i cells c.nullify.new.row
-    ∙ ap (λ row. with_row i row cells) (c.nullify.ensures ∙ ap (λ n. replicate n (null_cell g.row.R-Value.kind)) (ap length (read-row i cells) ∙ length-row i cells (omega (arith, c.requires.0, c.requires.1))))
+    ∙ ap (λ row. with_row i row cells) (c.nullify.ensures ∙ ap (λ n. replicate n (null_cell g.R.Value.kind)) (ap length (read-row i cells) ∙ length-row i cells (omega (arith, c.requires.0, c.requires.1))))
