@@ -2,7 +2,7 @@
 use Rattle.std.proofs.Common.{◌≡◌, ℕ, ◌+◌, ◌<◌, ◌≤◌, Bool, true, false, List, [], ◌∷◌, ◌++◌, map, length, get_or, take, drop, set, replicate, sym, refl, ap, ◌∙◌, append_assoc, append-nil, arith}
 use Rattle.std.proofs.lemmas.List.{take_more_set, drop-set-lt, drop_more, take_all, drop_all, replicate_more, map_more, set-get_or, get_or_default}
 use Rattle.std.proofs.lemmas.Bool.{and_from, eq-eqb, false≢true}
-use Rattle.row.specs.Rows.{over, becomes, null, value, change_cell, join_change, changed, join}
+use Rattle.row.specs.Rows.{over, becomes, change_cell, join_change, changed, join}
 use Rattle.row.specs.Kinds.{Kind}
 use Rattle.row.specs.Records.{cell_of, change_of, is_same, taken, takes, later, wholly, rows_fit}
 use Rattle.row.specs.declared.change.Cell.{Cell}

@@ -1,6 +1,6 @@
 -- A test at each element of a list, and a list with zeros behind it.
-use Rattle.std.specs.Prelude.{◌≡◌, ℕ, zero, suc, ◌+◌, ◌-◌, ◌<◌, ◌≤◌, Bool, true, false, cond, ◌&&◌, List, [], ◌∷◌, ◌++◌, length, take, drop, set, replicate, Some, None, ◌≢◌, nat_le, slice_index, slice_index_or, slice_set, refl}
-use Rattle.std.proofs.Common.{sym, ap, ◌∙◌, ⊎_elim, append_assoc, le_of_suc-le-suc, not-suc-le-zero, arith, rules}
+use Rattle.std.specs.Prelude.{◌≡◌, ℕ, zero, suc, ◌+◌, ◌-◌, ◌<◌, ◌≤◌, Bool, true, false, cond, List, [], ◌∷◌, ◌++◌, length, take, drop, set, replicate, Some, None, ◌≢◌, nat_le, slice_index, slice_index_or, slice_set, refl}
+use Rattle.std.proofs.Common.{sym, ap, ◌∙◌, ⊎_elim, append_assoc, le_of_suc-le-suc, not-suc-le-zero, arith}
 use Rattle.std.specs.List.{AllByRecursion}
 use Rattle.std.proofs.lemmas.List.{get_or-drop, length-drop, length-take, take-append-drop, take_more, take_all, drop_all, drop-append-le, drop_at, set_at, length-append, length-replicate, length-take-le, take_at}
 use Rattle.std.proofs.lemmas.Bool.{and_parts, and_from, cases_lt, cases_Bool, ltb-true, leb-true, eqb-true, le-leb, cond-true, cond_both}

@@ -1,5 +1,5 @@
 -- What reading a list leaves in memory: the delta's changes, as records of a kind of value, in all the places of a row.
-use Rattle.std.specs.Prelude.{ℕ, ◌-◌, cond, eqb, List, [], ◌++◌, map, length, replicate, Ok, Err, Result}
+use Rattle.std.specs.Prelude.{ℕ, ◌-◌, List, [], ◌++◌, map, length, replicate, Ok, Err, Result}
 use Rattle.row.specs.Kinds.{Kind}
 use Rattle.row.specs.Limits.{field_limit}
 use Rattle.row.specs.Records as records
@@ -8,7 +8,7 @@ use Rattle.row.specs.Rows as rows
 use Rattle.row.specs.Rows.{same}
 use Rattle.row.specs.declared.change.Change.{Change}
 use Rattle.row.specs.declared.fault.Refusal.{Refusal}
-use Rattle.tlcp.specs.Lists.{Meant, sames, one, read_value, read_list}
+use Rattle.tlcp.specs.Lists.{Meant, sames, one}
 
 -- a delta with same in the places behind its fields
 abbrev pub filled : List rows.Change → List rows.Change

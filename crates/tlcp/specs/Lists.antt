@@ -1,12 +1,12 @@
 -- Value lists: what a list of values says of a row, and how a delta is written as one.
-use Rattle.std.specs.Prelude.{◌≡◌, ℕ, suc, ◌+◌, ◌-◌, ◌*◌, ◌<◌, ◌≤◌, Bool, true, false, cond, ◌&&◌, ◌||◌, List, [], ◌∷◌, ◌++◌, map, length, drop, replicate, Some, None, Ok, Err, decimal, Option, Result, ◌==◌, nat_le}
+use Rattle.std.specs.Prelude.{◌≡◌, ℕ, suc, ◌+◌, ◌-◌, ◌*◌, ◌<◌, ◌≤◌, Bool, true, false, cond, ◌&&◌, ◌||◌, List, [], ◌∷◌, ◌++◌, length, drop, replicate, Some, None, Ok, Err, decimal, Option, Result, ◌==◌, nat_le}
 use Rattle.std.specs.List.{flat_map, AllByRecursion}
 use Rattle.row.specs.Limits.{field_limit, text_limit}
 use Rattle.row.specs.Rows.{Change, same, becomes, null, value}
 use Rattle.row.specs.declared.fault.Fault.{Fault}
 use Rattle.row.specs.declared.fault.Fault.TheVariants.{Escape, Number, Cover, Value}
 use Rattle.row.specs.declared.fault.Refusal.{Refusal}
-use Rattle.tlcp.specs.Escapes.{Decoded, decoded, Decodes, encode}
+use Rattle.tlcp.specs.Escapes.{decoded, Decodes, encode}
 use Rattle.tlcp.specs.Numbers.{number_of}
 
 abbrev pub refusal : Fault → ℕ → Refusal

@@ -1,5 +1,5 @@
 -- Where a byte stands in a text, and what stands before and behind it.
-use Rattle.std.specs.Prelude.{ℕ, suc, ◌+◌, Bool, cond, List, [], ◌∷◌, length, take, drop, Some, None, Option, ◌==◌, nat_lt}
+use Rattle.std.specs.Prelude.{ℕ, suc, ◌+◌, cond, List, [], ◌∷◌, length, take, drop, Some, None, Option, ◌==◌, nat_lt}
 
 -- the place of the first b, or the length where there is none
 abbrev pub place_of : ℕ → List ℕ → ℕ

@@ -1,6 +1,6 @@
-use Rattle.std.proofs.Common.{◌≡◌, ℕ, ◌+◌, ◌-◌, ◌<◌, ◌≤◌, List, [], ◌∷◌, ◌++◌, length, set, Some, None, sym, refl, ap, ◌∙◌, append_assoc, arith}
+use Rattle.std.proofs.Common.{◌≡◌, ◌+◌, ◌-◌, ◌<◌, ◌≤◌, [], ◌∷◌, ◌++◌, length, set, sym, refl, ap, ◌∙◌, append_assoc, arith}
 use Rattle.std.proofs.lemmas.List.{append-nil, length_push}
-use Rattle.tlcp.specs.Escapes.{decoded, decode_at, decode_answer, onto, stopped, overlaid, unit_of}
+use Rattle.tlcp.specs.Escapes.{decoded, decode_at, decode_answer, onto, stopped, overlaid}
 use Rattle.tlcp.proofs.Steps.{go_on, unit-step, unit-shorter, overlaid-none, overlaid-more, overlaid-full}
 use Rattle.tlcp.proofs.escape.decode.Goals as goal
 use Rattle.tlcp.proofs.escape.decode.Goals.{then-n-out, else-n-out, Joined-n-out}

@@ -1,4 +1,4 @@
-use Rattle.std.proofs.Common.{◌+◌, ◌-◌, ◌*◌, length, take, drop, Some, sym, ap, ◌∙◌, rules}
+use Rattle.std.proofs.Common.{◌+◌, ◌-◌, ◌*◌, length, take, drop, Some, sym, ◌∙◌, rules}
 use Rattle.tlcp.proofs.Steps.{unit-escape, unit-plain}
 use Rattle.tlcp.proofs.escape.unit.Goals as goal
 

@@ -1,4 +1,4 @@
-use Rattle.std.proofs.Common.{length, replicate, ap, ◌∙◌, arith, rules}
+use Rattle.std.proofs.Common.{replicate, ap, ◌∙◌, arith}
 use Rattle.std.proofs.lemmas.Result.{MatchResult-weaker}
 use Rattle.tlcp.specs.Held.{size_or, slot_after}
 use Rattle.tlcp.proofs.Contents.{decoded-read, plain-read}

@@ -1,4 +1,4 @@
-use Rattle.std.proofs.Common.{◌≡◌, true, length, take}
+use Rattle.std.proofs.Common.{◌≡◌, true, take}
 use Rattle.row.specs.Texts.{every, is_byte, padded}
 use Rattle.row.proofs.text.Text.new.Given as goal
 

@@ -1,4 +1,4 @@
-use Rattle.std.proofs.Common.{Some, sym, ap, ◌∙◌, arith}
+use Rattle.std.proofs.Common.{Some, ap, ◌∙◌, arith}
 use Rattle.row.specs.Every.{text-written}
 use Rattle.row.proofs.value.TextRecordValue.write.Goals as goal
 
