@@ -13,5 +13,5 @@ returns g c =
     let cells = c.args.cells.now in
     let is = read-row i cells in
     let fits = rows_fit_lem _ c.args.delta.now (ap length is ∙ length-row i cells (omega (arith, c.requires.0, c.requires.1.0))) c.requires.1.1 in
-    put-row i cells c.change-row.new.row
-    ∙ ap (λ row. with_row i row cells) (c.change-row.ensures.cells ∙ cond-true _ _ _ fits ∙ ap (λ row. over takes row c.args.delta.now) is)
+    put-row i cells c.change_row.new.row
+    ∙ ap (λ row. with_row i row cells) (c.change_row.ensures.cells ∙ cond-true _ _ _ fits ∙ ap (λ row. over takes row c.args.delta.now) is)
