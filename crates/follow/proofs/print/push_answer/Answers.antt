@@ -4,13 +4,13 @@ use Rattle.follow.specs.Answers.{answer_text}
 use Rattle.follow.proofs.Pushed.{four}
 use Rattle.follow.proofs.print.push_answer.Goals as goal
 
-pub returns-in-ok-push-number-2 : goal.returns-in-ok-push-number-2
-returns-in-ok-push-number-2 c =
+pub returns-in_ok-push_number-in-Err-2 : goal.returns-in_ok-push_number-in-Err-2
+returns-in_ok-push_number-in-Err-2 c =
     let out = vec_items c.args.out.now in
     let refusal = c.in-Err.refusal in
     four out (codes " no ") (decimal (number_of refusal.fault))
-    c.in-ok-extend-from-slice-3.ensures.items
-    (c.in-ok-push-number.ensures ∙ ap (λ n. vec_items c.extend-from-slice-in-Err.new.self ++ decimal n) c.number.ensures)
-    (32 ∷ []) c.in-ok-extend-from-slice-4.ensures.items
-    (decimal refusal.place) c.in-ok-push-number-2.ensures
+    c.in_ok-extend_from_slice-in-Err.ensures.items
+    (c.in_ok-push_number-in-Err.ensures ∙ ap (λ n. vec_items c.extend_from_slice-in-Err.new.self ++ decimal n) c.number.ensures)
+    (32 ∷ []) c.in_ok-extend_from_slice-in-Err-2.ensures.items
+    (decimal refusal.place) c.in_ok-push_number-in-Err-2.ensures
     ∙ ap (λ a. out ++ answer_text a) (sym c.in-Err.is)

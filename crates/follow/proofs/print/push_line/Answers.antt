@@ -6,4 +6,4 @@ use Rattle.follow.proofs.print.push_line.Goals as goal
 pub returns : goal.returns
 returns c =
     three (vec_items c.args.out.now) (decimal c.args.n) (answer_text c.args.answer)
-    c.in-ok-push-number.ensures c.in-ok-push-answer.ensures (10 ∷ []) c.in-ok-extend-from-slice.ensures.items
+    c.in_ok-push_number.ensures c.in_ok-push_answer.ensures (10 ∷ []) c.in_ok-extend_from_slice.ensures.items

@@ -12,7 +12,7 @@ pub loop-i-preserved : goal.loop-i-preserved
 loop-i-preserved c =
     let turn = c.loop-i in (
       turn.invariant.0 ++ _,
-      two (vec_items c.args.out.now) turn.invariant.0 _ turn.invariant.1 c.in-ok-push-row.ensures,
+      two (vec_items c.args.out.now) turn.invariant.0 _ turn.invariant.1 c.in_ok-push_row.ensures,
       rows_more turn.invariant.0 _ c.args.viewer.now.entries c.entries-entry-items.result.now c.args.cells.now turn.i c.entries-entry-items.ensures.value turn.invariant.2 _ _ c.loop-i-test.true (read-row turn.i c.args.cells.now),
     )
 

@@ -7,6 +7,6 @@ use Rattle.follow.proofs.follower.Stream.finish.Goals as goal
 
 pub returns : goal.returns
 returns c =
-    let last = c.in-ok-last-line.ensures in
+    let last = c.in_ok-last_line.ensures in
     two (vec_items c.args.out.now) _ _ last.1
-    (c.in-ok-push-rows.ensures ∙ ap (λ st. vec_items c.last-line.new.out ++ rows_text st.entries st.cells) last.0)
+    (c.in_ok-push_rows.ensures ∙ ap (λ st. vec_items c.last_line.new.out ++ rows_text st.entries st.cells) last.0)
