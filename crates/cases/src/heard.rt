@@ -48,16 +48,22 @@ impl Listener {
     }
 
     // Checks the first fields of a tap's row, written as a list.
-    fn check_row(&self, tap: usize, fields: usize, list: &[u8]) -> Result<(), Fail> {
-        assert!(tap < TAP_LIMIT);
+    fn check_row(
+        &self,
+        rt: &impl Abort,
+        tap: usize,
+        fields: usize,
+        list: &[u8],
+    ) -> Result<(), Fail> {
+        assert!(rt; tap < TAP_LIMIT);
         let at = FIELD_LIMIT * tap;
         let mut delta = self.delta;
         let mut out = [b'?'; LIST_LIMIT];
-        assert!(whole_row(&self.cells[at..at + FIELD_LIMIT], &mut delta).is_ok());
+        assert!(rt; whole_row(&self.cells[at..at + FIELD_LIMIT], &mut delta).is_ok());
         match write_list(&mut out, 0, &delta, fields) {
             Ok(len) => {
-                assert_eq!(len, list.len());
-                assert!(out.starts_with(list));
+                assert_eq!(rt; len, list.len());
+                assert!(rt; out.starts_with(list));
                 Ok(())
             }
             Err(_) => Err(Fail::new("no list")),
@@ -105,7 +111,7 @@ fn documented(rt: HostRuntime) -> Result<(), Fail> {
             (b"ERROR,-5,oops", Taken),
         ],
     )?;
-    listener.check_row(0, 3, b"Anduct|11:04:29|3.09")
+    listener.check_row(&rt, 0, 3, b"Anduct|11:04:29|3.09")
 }
 
 #[test]
@@ -175,7 +181,7 @@ fn refused(rt: HostRuntime) -> Result<(), Fail> {
             (b"U,1,1,a|b|cd%2", No(3, 12)),
         ],
     )?;
-    listener.check_row(0, 3, b"#|#|#")
+    listener.check_row(&rt, 0, 3, b"#|#|#")
 }
 
 #[test]
@@ -216,8 +222,8 @@ fn edges(rt: HostRuntime) -> Result<(), Fail> {
             (b"END,999999,%00", Taken),
         ],
     )?;
-    listener.check_row(3, 12, b"#|#|#|#|#|#|#|#|#|#|#|#")?;
-    listener.check_row(6, 1, b"a#$^%2C")
+    listener.check_row(&rt, 3, 12, b"#|#|#|#|#|#|#|#|#|#|#|#")?;
+    listener.check_row(&rt, 6, 1, b"a#$^%2C")
 }
 
 #[test]

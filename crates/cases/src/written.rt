@@ -60,16 +60,18 @@ fn check_list(
     list: Result<&[u8], u8>,
 ) -> Result<(), Fail> {
     let mut out = [b'?'; LIST_LIMIT];
-    match (write_list(&mut out, 0, &delta_of(row), fields), list) {
+    let written = write_list(&mut out, 0, &delta_of(row), fields);
+    assert_eq!(rt; written.is_ok(), list.is_ok(), "{fields} fields");
+    match (written, list) {
         (Ok(len), Ok(list)) => {
-            assert_eq!(rt; len, list.len());
-            assert!(rt; out.starts_with(list));
+            assert_eq!(rt; len, list.len(), "{fields} fields");
+            assert!(rt; out.starts_with(list), "{fields} fields");
             Ok(())
         }
         (Err(refusal), Err(number)) => {
-            assert_eq!(rt; refusal.fault.number(), number);
+            assert_eq!(rt; refusal.fault.number(), number, "{fields} fields");
             Ok(())
-        },
+        }
         _ => Err(Fail::new("accepted or refused wrongly")),
     }
 }
@@ -89,7 +91,7 @@ fn lists(rt: HostRuntime) -> Result<(), Fail> {
         (13, Err(7)),
     ];
     for (fields, list) in table.iter() {
-        check_list(&rt, &MIXED, *fields, *list).note(format_args!("{fields} fields"))?;
+        check_list(&rt, &MIXED, *fields, *list)?;
     }
     check_list(
         &rt,

@@ -1,5 +1,5 @@
 -- A row's values as they stand in a buffer that is long enough, and the rows one behind another.
-use Rattle.std.proofs.Common.{◌≡◌, ℕ, ◌+◌, ◌-◌, ◌<◌, ◌≤◌, Bool, true, false, cond, leb, List, [], ◌∷◌, ◌++◌, map, length, get_or, take, drop, Ok, Err, Result, sym, refl, ap, ◌∙◌, ⊎_elim, append_assoc, arith}
+use Rattle.std.proofs.Common.{◌≡◌, ℕ, ◌+◌, ◌-◌, ◌<◌, ◌≤◌, true, false, leb, List, [], ◌++◌, map, length, get_or, take, drop, Ok, Err, Result, sym, ap, ◌∙◌, ⊎_elim, append_assoc, arith}
 use Rattle.std.proofs.lemmas.List.{take_at, take-map, length-map, append-nil, at_drop_more, at_drop_all}
 use Rattle.std.proofs.lemmas.Bool.{cond-true, cond-false, cases_Bool, and_parts, leb-true, le-leb, eq-eqb}
 use Rattle.row.specs.Records.{cell_of, change_of, wholly}
@@ -12,7 +12,7 @@ use Rattle.row.specs.declared.text.TextRecord.{TextRecord}
 use Rattle.row.specs.Every.{text-lawful}
 use Rattle.row.proofs.Over.{wholly-means}
 use Rattle.tlcp.specs.Lists.{written_list, uncovered}
-use Rattle.tlcp.specs.Written.{changes_of, covers, end_or, fits, list_answer, list_placed, placed, placed_or}
+use Rattle.tlcp.specs.Written.{changes_of, covers, fits, list_answer, list_placed, placed}
 use Rattle.tlcp.proofs.Deltas.{list-short}
 use Rattle.viewer.specs.Rows.{row_at}
 use Rattle.viewer.specs.declared.entry.Entry.{Entry}

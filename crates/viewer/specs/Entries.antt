@@ -1,5 +1,5 @@
 -- Which entry a line speaks to.
-use Rattle.std.specs.Prelude.{ℕ, ◌+◌, Bool, true, false, cond, not, ◌&&◌, ◌||◌, List, [], ◌∷◌, Some, None, Option, ◌==◌}
+use Rattle.std.specs.Prelude.{ℕ, ◌+◌, Bool, true, false, cond, ◌&&◌, List, [], ◌∷◌, Some, None, Option, ◌==◌}
 use Rattle.viewer.specs.declared.entry.Entry.{Entry}
 use Rattle.viewer.specs.declared.entry.Wanted.{Wanted}
 use Rattle.viewer.specs.declared.entry.Wanted.TheVariants.{Any, Open}

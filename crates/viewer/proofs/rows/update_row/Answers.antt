@@ -1,6 +1,6 @@
-use Rattle.std.proofs.Common.{◌≡◌, length, ap, ◌∙◌, arith}
+use Rattle.std.proofs.Common.{length, ap, ◌∙◌, arith}
 use Rattle.std.proofs.lemmas.Bool.{cond-true}
-use Rattle.row.specs.Records.{takes, rows_fit}
+use Rattle.row.specs.Records.{takes}
 use Rattle.row.specs.Rows.{over}
 use Rattle.row.proofs.Over.{rows_fit_lem}
 use Rattle.viewer.specs.Rows.{with_row}

@@ -1,7 +1,5 @@
 use Rattle.std.proofs.Common.{◌++◌, vec_items, ap, ◌∙◌}
 use Rattle.follow.specs.Answers.{rows_text}
-use Rattle.follow.specs.Feeding.{last_line}
-use Rattle.follow.specs.Followers.{state_of}
 use Rattle.follow.proofs.Pushed.{two}
 use Rattle.follow.proofs.follower.Stream.finish.Goals as goal
 
