@@ -3,7 +3,7 @@ use Rattle.std.specs.Prelude.{◌≡◌, ℕ, zero, suc, ◌+◌, ◌-◌, ◌<�
 use Rattle.std.proofs.Common.{sym, ap, ◌∙◌, ⊎_elim, append_assoc, le_of_suc-le-suc, not-suc-le-zero, arith}
 use Rattle.std.specs.List.{AllByRecursion}
 use Rattle.std.proofs.lemmas.List.{get_or-drop, length-drop, length-take, take-append-drop, take_more, take_all, drop_all, drop-append-le, drop_at, set_at, length-append, length-replicate, length-take-le, take_at}
-use Rattle.std.proofs.lemmas.Bool.{and_parts, and_from, cases_lt, cases_Bool, ltb-true, leb-true, eqb-true, le-leb, cond-true, cond_both}
+use Rattle.std.proofs.lemmas.Bool.{both_ways, and_parts, and_from, cases_lt, cases_Bool, ltb-true, leb-true, eqb-true, le-leb, cond-true, cond_both}
 use Rattle.row.specs.Texts.{every, is_byte, is_zero, padded, text_allowed, text_sound, text_of, text_record, text_kind}
 use Rattle.row.specs.Kinds.{Lawful}
 use Rattle.row.specs.declared.text.TextRecord.{TextRecord}
@@ -18,6 +18,10 @@ pub every-at : (p : ℕ → Bool) (xs : List ℕ) (i d : ℕ) → i < length xs 
 every-at p [] i d h e = absurd (not-suc-le-zero h)
 every-at p (x ∷ xs) zero d h e = (and_parts (p x) (every p xs) e).0
 every-at p (x ∷ xs) (suc i) d h e = every-at p xs i d (le_of_suc-le-suc h) (and_parts (p x) (every p xs) e).1
+
+pub every-not : (p : ℕ → Bool) (xs : List ℕ) (i d : ℕ) → i < length xs → p (slice_index_or xs i d) ≡ false → every p xs ≡ false
+every-not p xs i d h e =
+    ⊎_elim (λ all. absurd (both_ways (p (slice_index_or xs i d)) e (every-at p xs i d h all))) (λ f. f) (cases_Bool (every p xs))
 
 pub every_take : (p : ℕ → Bool) (n : ℕ) (xs : List ℕ) → every p xs ≡ true → every p (take n xs) ≡ true
 every_take p zero xs e = refl

@@ -12,3 +12,7 @@ pub mod Placing
 pub mod Appending
 pub mod Deltas
 pub mod Reading
+pub mod Encoding
+pub mod Encoded
+pub mod Dividing
+pub mod WordsAndEnds

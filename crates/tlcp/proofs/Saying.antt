@@ -61,7 +61,7 @@ rest-is x o at comma plain is =
     λ i. option_map (λ t. piece t (k i)) (behind-is x o plain i)
 
 -- tags
-same_bytes_lem : (x y : List ℕ) → same_bytes x y ≡ true → x ≡ y
+pub same_bytes_lem : (x y : List ℕ) → same_bytes x y ≡ true → x ≡ y
 same_bytes_lem [] [] e = refl
 same_bytes_lem [] (b ∷ y) e = cc
 same_bytes_lem (a ∷ x) [] e = cc

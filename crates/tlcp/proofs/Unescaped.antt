@@ -50,17 +50,17 @@ pub reads-escapes : ReadsEscapes
 reads-escapes s t = (λ e. subst (Decodes s) (ap (λ d. d.bytes) e) (sound s 0 (ap (λ d. d.fault) e)), λ r. complete r 0)
 
 -- the digits of a byte
-is-hex : (n : ℕ) → n < 16 → is_hex (hex_digit n) ≡ true
+pub is-hex : (n : ℕ) → n < 16 → is_hex (hex_digit n) ≡ true
 is-hex n h = grind (arith, nat_tests)
 
-hex-value : (n : ℕ) → n < 16 → hex_value (hex_digit n) ≡ n
+pub hex-value : (n : ℕ) → n < 16 → hex_value (hex_digit n) ≡ n
 hex-value n h = grind (arith, nat_tests)
 
 hex-pipe : (n : ℕ) → n < 16 → eqb (hex_digit n) 124 ≡ false
 hex-pipe n h = grind (arith, nat_tests)
 
 -- a byte, escaped or not, is read back; one that is not escaped is no `%`
-decodes-spelled : (v : Bool) (b : ℕ) {s t : List ℕ} → b < 256 → (v ≡ false → eqb b 37 ≡ false) → Decodes s t → Decodes (spelled v b ++ s) (b ∷ t)
+pub decodes-spelled : (v : Bool) (b : ℕ) {s t : List ℕ} → b < 256 → (v ≡ false → eqb b 37 ≡ false) → Decodes s t → Decodes (spelled v b ++ s) (b ∷ t)
 decodes-spelled false b small other r = plain (other refl) r
 decodes-spelled true b {s} {t} small other r =
     let high : b / 16 < 16 = omega arith in
@@ -68,7 +68,7 @@ decodes-spelled true b {s} {t} small other r =
     let is : 16 * hex_value (hex_digit (b / 16)) + hex_value (hex_digit (b % 16)) ≡ b = rw (hex-value (b / 16) high, hex-value (b % 16) low) (omega arith) in
     subst (λ x. Decodes (spelled true b ++ s) (x ∷ t)) is (escape (is-hex (b / 16) high) (is-hex (b % 16) low) r)
 
-plain-percent : (b : ℕ) → is_escaped b ≡ false → eqb b 37 ≡ false
+pub plain-percent : (b : ℕ) → is_escaped b ≡ false → eqb b 37 ≡ false
 plain-percent b e = grind (arith, nat_tests)
 
 decodes-rest : (t : List ℕ) → AllByRecursion (λ b. b < 256) t → Decodes (encode_rest t) t

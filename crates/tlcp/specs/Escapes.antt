@@ -73,6 +73,11 @@ abbrev pub spelled : Bool → ℕ → List ℕ
 spelled true b = escaped b
 spelled false b = b ∷ []
 
+-- a text with the bytes that p says escaped
+abbrev pub encoded_by : (ℕ → Bool) → List ℕ → List ℕ
+encoded_by p [] = []
+encoded_by p (b ∷ t) = spelled (p b) b ++ encoded_by p t
+
 abbrev pub encode_rest : List ℕ → List ℕ
 encode_rest [] = []
 encode_rest (b ∷ t) = spelled (is_escaped b) b ++ encode_rest t

@@ -9,3 +9,4 @@ pub mod Held
 pub mod Examples
 pub mod Written
 pub mod Said
+pub mod Dividing

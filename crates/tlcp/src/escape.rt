@@ -1,5 +1,5 @@
 // Escapes: `%` and two hexadecimal digits stand for one byte.
-ghost use Rattle.std.specs.Prelude.{◌≡◌, ◌<◌, ◌≤◌, true, length, MatchResult};
+ghost use Rattle.std.specs.Prelude.{◌≡◌, ◌<◌, ◌≤◌, true, length, IfSome, if◌then◌else◌, Some, None, MatchResult};
 ghost use Rattle.std.specs.Option.{option_map};
 ghost use Rattle.tlcp.specs.Bytes.{is_hex};
 ghost use Rattle.tlcp.specs.Escapes.{hex_value, unit_of, decoded, decode_answer, overlaid};
@@ -16,6 +16,18 @@ fn hex_value(b: u8) -> u8
         b'0'..=b'9' => b - b'0',
         b'A'..=b'F' => b - 55,
         _ => b - 87,
+    }
+}
+
+// The value of a byte as a hexadecimal digit, if it is one.
+pub fn hex_of(b: u8) -> Option<u8>
+    ensures value { result ≡ (if is_hex b then Some (hex_value b) else None) }
+    ensures bound { IfSome result (λ n. n < 16) }
+{
+    if is_of(b, Class::Hex) {
+        Some(hex_value(b))
+    } else {
+        None
     }
 }
 

@@ -11,7 +11,7 @@ use crate::part::{find, split};
 use row::{Change, FIELD_LIMIT, Fault, Mark, Refusal, TEXT_LIMIT, Value, blank};
 
 // The row is not covered exactly: the whole list is at fault.
-pub(crate) const UNCOVERED: Refusal = Refusal {
+pub const UNCOVERED: Refusal = Refusal {
     fault: Fault::Cover,
     place: 0,
 };

@@ -8,6 +8,7 @@ ghost use Rattle.tlcp.specs.Lists.{each_piped, run_values, text_value, written_v
 ghost use Rattle.tlcp.specs.Written.{Appended, field_room, values_of, list_answer, list_placed, ReadBack};
 
 use crate::class::{Class, is_of};
+use crate::encode::hex_digit;
 use crate::list::UNCOVERED;
 use crate::write::{put, write_number};
 use row::{Change, FIELD_LIMIT, Mark, Refusal, TEXT_LIMIT, Value};
@@ -23,14 +24,6 @@ fn append(out: &mut [u8], n: usize, bytes: &[u8]) -> usize
     let end = n + bytes.len();
     out[n..end].copy_from_slice(bytes);
     end
-}
-
-// The capital hexadecimal digit of a number below 16.
-fn hex_digit(n: u8) -> u8
-    requires { n < 16 }
-    ensures { result ≡ hex_digit n }
-{
-    if n <= 9 { b'0' + n } else { 55 + n }
 }
 
 // A byte of a text, with an escape where it is of the class.

@@ -4,7 +4,8 @@ ghost use Rattle.tlcp.specs.Numbers.{leading_zero, number_of, code_of};
 
 use crate::class::{Class, is_of};
 
-const CODE_LIMIT: u32 = 999_999;
+// The largest magnitude of a code.
+pub const CODE_LIMIT: u32 = 999_999;
 
 // Empty, or with a zero before other digits.
 fn is_misshapen(s: &[u8]) -> bool

@@ -1,7 +1,7 @@
 // Parts of a text.
 ghost use Rattle.std.specs.Prelude.{◌≡◌, ◌+◌, ◌≤◌, length, IfSome, MatchOption};
 ghost use Rattle.std.specs.Option.{option_map};
-ghost use Rattle.tlcp.specs.Lines.{front, rest};
+ghost use Rattle.tlcp.specs.Lines.{front, rest, same_bytes};
 ghost use Rattle.tlcp.specs.Parts.{place_of, before, behind};
 ghost use Rattle.tlcp.specs.Said.{InLine, piece_in};
 
@@ -38,6 +38,13 @@ pub fn split(s: &[u8], b: u8) -> (&[u8], Option<&[u8]>)
     } else {
         (s, None)
     }
+}
+
+// Whether a text is this word.
+pub fn is_word(s: &[u8], word: &[u8]) -> bool
+    ensures { result ≡ same_bytes s.now word.now }
+{
+    s == word
 }
 
 // A part up to its first comma, and the part behind that comma.

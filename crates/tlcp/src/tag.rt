@@ -1,6 +1,8 @@
 // The tags of lines.
 ghost use Rattle.std.specs.Prelude.{◌≡◌, drop};
-ghost use Rattle.tlcp.specs.Lines.{first_tag, same_bytes, tag_of, tags};
+ghost use Rattle.tlcp.specs.Lines.{first_tag, tag_of, tags};
+
+use crate::part::is_word;
 
 #[derive(Clone, Copy, PartialEq, Debug)]
 pub enum Tag {
@@ -24,34 +26,28 @@ pub enum Tag {
     Conok,
 }
 
-fn is(s: &[u8], word: &[u8]) -> bool
-    ensures { result ≡ same_bytes s.now word.now }
-{
-    s == word
-}
-
 impl Tag {
     // The tag that a word stands for.
     pub fn of(word: &[u8]) -> Option<Tag>
         ensures { result ≡ tag_of word.now }
     {
-        if is(word, b"U") {
+        if is_word(word, b"U") {
             Some(Tag::U)
-        } else if is(word, b"PROBE") {
+        } else if is_word(word, b"PROBE") {
             Some(Tag::Probe)
-        } else if is(word, b"SYNC") {
+        } else if is_word(word, b"SYNC") {
             Some(Tag::Sync)
-        } else if is(word, b"LOOP") {
+        } else if is_word(word, b"LOOP") {
             Some(Tag::Loop)
-        } else if is(word, b"CONS") {
+        } else if is_word(word, b"CONS") {
             Some(Tag::Cons)
-        } else if is(word, b"SERVNAME") {
+        } else if is_word(word, b"SERVNAME") {
             Some(Tag::Servname)
-        } else if is(word, b"CLIENTIP") {
+        } else if is_word(word, b"CLIENTIP") {
             Some(Tag::Clientip)
-        } else if is(word, b"REQOK") {
+        } else if is_word(word, b"REQOK") {
             Some(Tag::Reqok)
-        } else if is(word, b"UNSUB") {
+        } else if is_word(word, b"UNSUB") {
             Some(Tag::Unsub)
         } else {
             Tag::of_others(word)
@@ -61,23 +57,23 @@ impl Tag {
     fn of_others(word: &[u8]) -> Option<Tag>
         ensures { result ≡ first_tag (drop 9 tags) word.now }
     {
-        if is(word, b"CONERR") {
+        if is_word(word, b"CONERR") {
             Some(Tag::Conerr)
-        } else if is(word, b"END") {
+        } else if is_word(word, b"END") {
             Some(Tag::End)
-        } else if is(word, b"ERROR") {
+        } else if is_word(word, b"ERROR") {
             Some(Tag::Error)
-        } else if is(word, b"EOS") {
+        } else if is_word(word, b"EOS") {
             Some(Tag::Eos)
-        } else if is(word, b"SUBOK") {
+        } else if is_word(word, b"SUBOK") {
             Some(Tag::Subok)
-        } else if is(word, b"OV") {
+        } else if is_word(word, b"OV") {
             Some(Tag::Ov)
-        } else if is(word, b"CONF") {
+        } else if is_word(word, b"CONF") {
             Some(Tag::Conf)
-        } else if is(word, b"REQERR") {
+        } else if is_word(word, b"REQERR") {
             Some(Tag::Reqerr)
-        } else if is(word, b"CONOK") {
+        } else if is_word(word, b"CONOK") {
             Some(Tag::Conok)
         } else {
             None

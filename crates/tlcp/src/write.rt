@@ -4,7 +4,7 @@ ghost use Rattle.tlcp.specs.Written.{end_or, placed_or};
 
 use row::{Fault, Refusal};
 
-const NO_ROOM: Refusal = Refusal {
+pub(crate) const NO_ROOM: Refusal = Refusal {
     fault: Fault::Length,
     place: 0,
 };

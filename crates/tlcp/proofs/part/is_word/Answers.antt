@@ -1,7 +1,7 @@
 use Rattle.std.proofs.Common.{◌≡◌, ℕ, ◌&&◌, List, [], ◌∷◌, refl, ap, ◌∙◌, ◌==◌}
 use Rattle.std.specs.Str.{bytes_eq}
 use Rattle.tlcp.specs.Lines.{same_bytes}
-use Rattle.tlcp.proofs.tag.is.Goals as goal
+use Rattle.tlcp.proofs.part.is_word.Goals as goal
 
 eq-same_bytes : (x y : List ℕ) → bytes_eq x y ≡ same_bytes x y
 eq-same_bytes [] [] = refl

@@ -1,0 +1,63 @@
+-- Texts with any bytes escaped: what they hold, how long they are, and that they are read back.
+use Rattle.std.proofs.Common.{◌≡◌, ℕ, ◌+◌, ◌*◌, ◌/◌, ◌%◌, ◌<◌, ◌≤◌, Bool, true, false, eqb, List, [], ◌∷◌, ◌++◌, length, take, drop, Some, None, Ok, Option, sym, refl, ap, ◌∙◌, arith}
+use Rattle.std.specs.List.{AllByRecursion}
+use Rattle.std.proofs.lemmas.List.{length-append, take_all, take_at}
+use Rattle.std.proofs.lemmas.Bool.{both_ways, or_parts, or_from, ne_eqb}
+use Rattle.tlcp.specs.Bytes.{is_hex, is_escaped, is_escaped_first}
+use Rattle.tlcp.specs.Dividing.{has}
+use Rattle.tlcp.specs.Escapes.{count_or, overlaid, Decodes, nothing, hex_digit, spelled, encoded_by, encode_rest, encode}
+use Rattle.tlcp.proofs.Unescaped.{is-hex, decodes-spelled, plain-percent, length-spelled}
+
+-- what `decode` answers where there is no fault, and what it leaves in its buffer
+pub sound-answer : (n : ℕ) (t : List ℕ) (f : Option ℕ) → Ok n ≡ count_or (length t) f → (n ≡ length t) × (f ≡ None)
+sound-answer n t None e = (cc, refl)
+sound-answer n t (Some at) e = absurd (let z : ◌≡◌ {A = ℕ} 0 1 = cc in omega arith)
+
+pub take-overlaid : (t xs : List ℕ) (n : ℕ) → n ≡ length t → n ≤ length xs → take n (overlaid t xs) ≡ t
+take-overlaid t xs n is room =
+    ap (λ l. take n (l ++ drop (length t) xs)) (take_all (length xs) t (omega arith)) ∙ take_at t (drop (length t) xs) n (sym is)
+
+-- it is none of the bytes that are no digits
+hex-other : (c n : ℕ) → is_hex c ≡ false → n < 16 → eqb (hex_digit n) c ≡ false
+hex-other c n other h = ne_eqb (hex_digit n) c (λ e. both_ways (is_hex c) other (ap is_hex (sym e) ∙ is-hex n h))
+
+-- a text is read back if each `%` is escaped
+pub decodes-by : (p : ℕ → Bool) → ((b : ℕ) → p b ≡ false → eqb b 37 ≡ false) → (t : List ℕ) → AllByRecursion (λ b. b < 256) t → Decodes (encoded_by p t) t
+decodes-by p other [] h = nothing
+decodes-by p other (b ∷ t) h = decodes-spelled (p b) b h.0 (other b) (decodes-by p other t h.1)
+
+-- what stands behind a value's first byte is escaped where it is of one class
+rest-by : (t : List ℕ) → encode_rest t ≡ encoded_by is_escaped t
+rest-by [] = refl
+rest-by (b ∷ t) = ap (λ l. spelled (is_escaped b) b ++ l) (rest-by t)
+
+pub has-append : (c : ℕ) (s t : List ℕ) → has c s ≡ false → has c t ≡ false → has c (s ++ t) ≡ false
+has-append c [] t e f = f
+has-append c (b ∷ s) t e f =
+    let h = or_parts (eqb b c) (has c s) e in
+    or_from (eqb b c) (has c (s ++ t)) h.0 (has-append c s t h.1 f)
+
+-- a byte c that is no part of an escape
+module _ (c : ℕ) (digit : is_hex c ≡ false) (percent : eqb 37 c ≡ false) where
+  has-spelled : (v : Bool) (b : ℕ) → b < 256 → (v ≡ false → eqb b c ≡ false) → has c (spelled v b) ≡ false
+  has-spelled false b small other = or_from (eqb b c) false (other refl) refl
+  has-spelled true b small other =
+      or_from (eqb 37 c) _ percent
+      (or_from (eqb (hex_digit (b / 16)) c) _ (hex-other c (b / 16) digit (omega arith))
+      (or_from (eqb (hex_digit (b % 16)) c) false (hex-other c (b % 16) digit (omega arith)) refl))
+
+  -- it stands in no text that has it escaped; not so of numbers above 255: the first digit of 1104 would be a pipe
+  pub has-by : (p : ℕ → Bool) → ((b : ℕ) → p b ≡ false → eqb b c ≡ false) → (t : List ℕ) → AllByRecursion (λ b. b < 256) t → has c (encoded_by p t) ≡ false
+  has-by p other [] h = refl
+  has-by p other (b ∷ t) h = has-append c (spelled (p b) b) (encoded_by p t) (has-spelled (p b) b h.0 (other b)) (has-by p other t h.1)
+
+  pub has-encode : ((b : ℕ) → is_escaped b ≡ false → eqb b c ≡ false) → (t : List ℕ) → AllByRecursion (λ b. b < 256) t → has c (encode t) ≡ false
+  has-encode other [] h = refl
+  has-encode other (b ∷ t) h =
+      has-append c (spelled (is_escaped_first b) b) (encode_rest t)
+      (has-spelled (is_escaped_first b) b h.0 (λ e. other b (or_parts (is_escaped b) _ e).0))
+      (ap (has c) (rest-by t) ∙ has-by is_escaped other t h.1)
+
+pub length-by : (p : ℕ → Bool) (t : List ℕ) → length (encoded_by p t) ≤ 3 * length t
+length-by p [] = omega arith
+length-by p (b ∷ t) = simp length-append (omega (arith, length-spelled (p b) b, length-by p t))

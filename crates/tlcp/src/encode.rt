@@ -1,0 +1,74 @@
+// Texts written with escapes.
+ghost use Rattle.std.specs.Prelude.{◌≡◌, ◌/◌, ◌%◌, ◌<◌, [], ◌∷◌, length, nat_le};
+ghost use Rattle.tlcp.specs.Bytes.{in_class};
+ghost use Rattle.tlcp.specs.Escapes.{encoded_by, hex_digit, spelled};
+ghost use Rattle.tlcp.specs.Written.{end_or, placed_or};
+
+use crate::class::{Class, is_of};
+use crate::write::{NO_ROOM, put};
+use row::Refusal;
+
+// The capital hexadecimal digit of a number below 16.
+pub(crate) fn hex_digit(n: u8) -> u8
+    requires { n < 16 }
+    ensures { result ≡ hex_digit n }
+{
+    if n <= 9 { b'0' + n } else { 55 + n }
+}
+
+// The two capital hexadecimal digits of a byte.
+pub fn hex_digits(b: u8) -> [u8; 2]
+    ensures { result ≡ hex_digit (b / 16) ∷ hex_digit (b % 16) ∷ [] }
+{
+    [hex_digit(b / 16), hex_digit(b % 16)]
+}
+
+// Writes a byte, with an escape where it is of the class.
+fn put_byte(out: &mut [u8], at: usize, b: u8, class: Class) -> Result<usize, Refusal>
+    ensures answer { result ≡ end_or at (spelled (in_class class b) b) out.old }
+    ensures bytes { out.new ≡ placed_or at (spelled (in_class class b) b) out.old }
+{
+    if is_of(b, class) {
+        let [high, low] = hex_digits(b);
+        put(out, at, &[b'%', high, low])
+    } else {
+        put(out, at, &[b])
+    }
+}
+
+// The places that a byte takes.
+fn size(b: u8, class: Class) -> usize
+    ensures { result ≡ length (spelled (in_class class b) b) }
+{
+    if is_of(b, class) { 3 } else { 1 }
+}
+
+// Whether a text takes no more than so many places, its bytes of the class escaped.
+fn is_within(text: &[u8], class: Class, room: usize) -> bool
+    ensures { result ≡ nat_le (length (encoded_by (in_class class) text.now)) room }
+{
+    let mut left = room;
+    for b in text {
+        let more = size(*b, class);
+        if more > left {
+            return false;
+        }
+        left -= more;
+    }
+    true
+}
+
+// Writes a text from the place `at` on, its bytes of the class escaped, if it fits, and answers the place behind it.
+pub fn put_escaped(out: &mut [u8], at: usize, text: &[u8], class: Class) -> Result<usize, Refusal>
+    ensures answer { result ≡ end_or at (encoded_by (in_class class) text.now) out.old }
+    ensures bytes { out.new ≡ placed_or at (encoded_by (in_class class) text.now) out.old }
+{
+    if at > out.len() || !is_within(text, class, out.len() - at) {
+        return Err(NO_ROOM);
+    }
+    let mut end = at;
+    for b in text {
+        end = put_byte(out, end, *b, class)?;
+    }
+    Ok(end)
+}
