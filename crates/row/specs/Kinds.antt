@@ -23,3 +23,8 @@ pub record Lawful {R : Type 0} (k : Kind R) : Type 0 where
 
 abbrev pub rest_record : {R : Type 0} → Kind R → R
 rest_record k = k.raw k.rest
+
+-- of the whole records, no two have the same text, and a text's own record is one of them
+pub record Apart {R : Type 0} (k : Kind R) (whole : R → Bool) : Type 0 where
+  pub raw-whole : (t : List ℕ) → k.allowed t ≡ true → whole (k.raw t) ≡ true
+  pub apart : (r s : R) → whole r ≡ true → whole s ≡ true → k.text r ≡ k.text s → r ≡ s

@@ -3,5 +3,7 @@ pub mod Limits
 pub mod Rows
 pub mod Kinds
 pub mod Texts
+pub mod Logics
 pub mod Records
 pub mod Every
+pub mod LogicsLemmas

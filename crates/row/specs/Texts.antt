@@ -26,6 +26,10 @@ text_allowed t = nat_le (length t) text_limit && every is_byte t
 abbrev pub text_sound : TextRecord → Bool
 text_sound r = nat_le r.len text_limit && (every is_byte r.bytes && every is_zero (drop r.len r.bytes))
 
+-- the same of a record that has as many bytes as memory gives it
+abbrev pub text_whole : TextRecord → Bool
+text_whole r = length r.bytes == text_limit && text_sound r
+
 -- the text of a record; one that is not sound means the empty text
 abbrev pub text_of : TextRecord → List ℕ
 text_of r = cond (text_sound r) (take r.len r.bytes) []

@@ -3,6 +3,7 @@
 
 mod change;
 mod fault;
+mod logic;
 mod text;
 mod value;
 
@@ -10,5 +11,6 @@ pub use change::{
     Cell, Change, FIELD_LIMIT, Mark, blank, change_row, join_delta, nullify, whole_row,
 };
 pub use fault::{Fault, Refusal};
+pub use logic::{Logic, LogicRecord};
 pub use text::{TEXT_LIMIT, Text, TextRecord};
-pub use value::Value;
+pub use value::{Value, values_differ_in_text};

@@ -1,8 +1,9 @@
 // A kind of value, by the plain records that stand for its values in memory.
 ghost use Rattle.std.specs.Prelude.{◌≡◌, ℕ, length, if◌then◌else◌, Some, None};
-ghost use Rattle.row.specs.Kinds.{Kind, Lawful, rest_record};
+ghost use Rattle.row.specs.Kinds.{Kind, Lawful, Apart, rest_record};
 ghost use Rattle.row.specs.Limits.{text_limit};
-ghost use Rattle.row.specs.Texts.{padded, text_kind};
+ghost use Rattle.row.specs.Texts.{padded, text_kind, text_whole};
+ghost use Rattle.row.specs.Logics.{logic_kind, logic_sound};
 ghost use Rattle.row.specs.Every.{text-lawful};
 
 use crate::text::{Text, TextRecord};
@@ -59,3 +60,9 @@ impl Value for TextRecord {
         }
     }
 }
+
+// No two values of a kind share a text. Nothing to run: the contract says it.
+pub fn values_differ_in_text()
+    ensures text { Apart text_kind text_whole }
+    ensures logic { Apart logic_kind logic_sound }
+{}

@@ -1,0 +1,74 @@
+use Rattle.std.proofs.Common.{◌≡◌, ◌+◌, ◌*◌, ◌^◌, ◌<◌, true, map, length, get_or, take, Some, sym, refl, ap, ◌∙◌, arith, rules}
+use Rattle.std.specs.Int.Digits.{number_from_digits}
+use Rattle.std.proofs.lemmas.List.{take_all}
+use Rattle.std.proofs.lemmas.Bool.{cond-true, cond-false}
+use Rattle.row.specs.Limits.{text_limit}
+use Rattle.row.specs.Texts.{every}
+use Rattle.row.specs.Logics.{is_logic, bit_a, bit_b, logic_allowed, logic_sound, logic_record}
+use Rattle.row.specs.declared.logic.LogicRecord.{LogicRecord}
+use Rattle.row.specs.Every.{every_more, some-from-cond, none-from-cond}
+use Rattle.row.specs.LogicsLemmas.{bit_a-small, bit_b-small, word_more, word_fits, not-allowed, allowed-from, record-sound}
+use Rattle.row.proofs.logic.Logic.new.Goals as goal
+use Rattle.row.proofs.logic.Logic.new.Goals.{In_ok-in_a, After-loop-character}
+
+pub returns-in_err-in_a : goal.returns-in_err-in_a
+returns-in_err-in_a c =
+    let text = c.args.text.now in
+    let refused = none-from-cond (is_logic (get_or text c.loop-character.character-index 0)) _ c.in_err-in_a.ensures in
+    rw c.from_residual.ensures
+    (sym (cond-false (logic_allowed text) _ _ (not-allowed text c.loop-character.character-index c.loop-character-test.true refused)))
+
+-- a turn makes the words of one character more
+turn : (c : In_ok-in_a) → (is_logic (get_or c.args.text.now c.loop-character.character-index 0) ≡ true) × (2 * c.loop-character.a + c.in_ok-in_a.in_a ≡ number_from_digits 2 (map bit_a (take (c.loop-character.character-index + 1) c.args.text.now))) × (2 * c.loop-character.b + c.in_ok-in_a.in_b ≡ number_from_digits 2 (map bit_b (take (c.loop-character.character-index + 1) c.args.text.now)))
+turn c =
+    let text = c.args.text.now in
+    let i = c.loop-character.character-index in
+    let h = some-from-cond (is_logic (get_or text i 0)) (c.in_ok-in_a.in_a, c.in_ok-in_a.in_b) (bit_a (get_or text i 0), bit_b (get_or text i 0)) c.in_ok-in_a.ensures in (
+      h.0,
+      word_more bit_a bit_a-small text i c.loop-character.a _ c.loop-character-test.true c.loop-character.invariant.1 (ap (λ p. p.0) h.1),
+      word_more bit_b bit_b-small text i c.loop-character.b _ c.loop-character-test.true c.loop-character.invariant.2 (ap (λ p. p.1) h.1),
+    )
+
+fits-a : (c : In_ok-in_a) → 2 * c.loop-character.a + c.in_ok-in_a.in_a < 2 ^ text_limit
+fits-a c = omega (arith, (turn c).1, word_fits bit_a bit_a-small c.args.text.now (c.loop-character.character-index + 1) (omega arith))
+
+fits-b : (c : In_ok-in_a) → 2 * c.loop-character.b + c.in_ok-in_a.in_b < 2 ^ text_limit
+fits-b c = omega (arith, (turn c).2, word_fits bit_b bit_b-small c.args.text.now (c.loop-character.character-index + 1) (omega arith))
+
+pub overflow_mul-a : goal.overflow_mul-a
+overflow_mul-a c = omega (arith, fits-a c)
+
+pub overflow_add-a : goal.overflow_add-a
+overflow_add-a c = omega (arith, fits-a c)
+
+pub overflow_mul-b : goal.overflow_mul-b
+overflow_mul-b c = omega (arith, fits-b c)
+
+pub overflow_add-b : goal.overflow_add-b
+overflow_add-b c = omega (arith, fits-b c)
+
+pub loop-character-preserved : goal.loop-character-preserved
+loop-character-preserved c =
+    let h = turn c in
+    (every_more is_logic c.args.text.now c.loop-character.character-index _ c.loop-character-test.true refl c.loop-character.invariant.0 h.0, h.1, h.2)
+
+-- behind the loop the whole text has been read
+done : (c : After-loop-character) → (logic_allowed c.args.text.now ≡ true) × (◌≡◌ {A = LogicRecord} (record { a = c.loop-character.a; b = c.loop-character.b; width = length c.args.text.now }) (logic_record c.args.text.now))
+done c =
+    let text = c.args.text.now in
+    let whole = take_all c.loop-character.character-index text c.loop-character-test.false in
+    let in_a = c.loop-character.invariant.1 ∙ ap (λ t. number_from_digits 2 (map bit_a t)) whole in
+    let in_b = c.loop-character.invariant.2 ∙ ap (λ t. number_from_digits 2 (map bit_b t)) whole in (
+      allowed-from text (search rules) (omega arith) (ap (every is_logic) (sym whole) ∙ c.loop-character.invariant.0),
+      λ i. record { a = in_a i; b = in_b i; width = length text },
+    )
+
+pub invariant_of-result : goal.invariant_of-result
+invariant_of-result c =
+    let d = done c in
+    record { sound = ap logic_sound d.1 ∙ record-sound c.args.text.now d.0 }
+
+pub returns : goal.returns
+returns c =
+    let d = done (goal.at.returns c).After-loop-character in
+    ap Some d.1 ∙ sym (cond-true (logic_allowed c.args.text.now) _ _ d.0)
