@@ -1,0 +1,16 @@
+-- What the reader's answers mean.
+use Rattle.std.specs.Prelude.{ℕ, List, map, take}
+use Rattle.std.specs.Option.{option_map}
+use Rattle.requests.specs.Requests as asked
+use Rattle.requests.specs.declared.pairs.Pair.{Pair}
+use Rattle.requests.specs.declared.pairs.Pairs.{Pairs}
+use Rattle.requests.specs.declared.word.Word.{Word}
+
+abbrev pub word_text : Word → List ℕ
+word_text w = take w.len w.bytes
+
+abbrev pub pair_in : Pair → asked.Pair
+pair_in p = record { at = p.at; value_at = p.value_at; text = word_text p.word }
+
+abbrev pub pairs_in : Pairs → asked.Pairs
+pairs_in ps = map (option_map pair_in) ps.slots

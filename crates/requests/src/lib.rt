@@ -1,0 +1,13 @@
+// Requests from the viewer, as the emulator reads them.
+#![tactic(auto)]
+
+mod fit;
+mod name;
+mod pairs;
+mod request;
+mod word;
+
+pub use fit::REQUEST_ID_LIMIT;
+pub use name::{Form, Name, PARAMETER_COUNT, Parameter, is_in};
+pub use request::{REQUEST_LIMIT, Request, read_request};
+pub use word::{VALUE_LIMIT, Word};
