@@ -1,0 +1,126 @@
+// A request that is being written into lent bytes.
+ghost use Rattle.std.specs.Prelude.{◌≡◌, List, [], length, replicate, if◌then◌else◌, OnOk};
+ghost use Rattle.compose.specs.Written.{Pair, pair};
+ghost use Rattle.compose.specs.Drafts.{add_answer, add_to, begin_answer, begin_in, draft_of, unbegun};
+ghost use Rattle.compose.specs.Held.{Holds, Stands, pairs_after};
+ghost use Rattle.compose.specs.ReadBack.{ReadsBack};
+
+use crate::part::{NO_ROOM, has, put_head, put_pair};
+use requests::{Name, PARAMETER_COUNT, Parameter, VALUE_LIMIT};
+use row::{Fault, Refusal};
+
+// A parameter that was added before, or is not one of the name's.
+const UNFIT: Refusal = Refusal {
+    fault: Fault::Parts,
+    place: 0,
+};
+
+// Holds the lent bytes until the request is finished. A password may be among them by then, so a request
+// that is left before leaves only zeros.
+pub struct RequestWriter<'a> {
+    out: &'a mut [u8],
+    len: usize,
+    name: Name,
+    given: [bool; PARAMETER_COUNT],
+    kept: bool,
+}
+
+// The receipt of a finished request: how many of the bytes it takes.
+#[derive(Clone, Copy)]
+pub struct Finished {
+    pub len: usize,
+}
+
+impl Drop for RequestWriter<'_> {
+    fn drop(self)
+        ensures { self.exit.0.now ≡ (if self.entry.kept then self.entry.out.now else replicate (length self.entry.out.now) 0) }
+    {
+        let RequestWriter {
+            out,
+            len: _,
+            name: _,
+            given: _,
+            kept,
+        } = self;
+        if !kept {
+            out.fill(0);
+        }
+    }
+}
+
+impl<'a> RequestWriter<'a> {
+    // A writer over lent bytes, which leaves them alone until its request begins.
+    pub fn new(out: &'a mut [u8], name: Name) -> RequestWriter<'a>
+        ensures draft { draft_of result ≡ unbegun name out.old }
+        ensures lent { result.out.ghost_name ≡ out.entry.ghost_name }
+    {
+        RequestWriter {
+            out,
+            len: 0,
+            name,
+            given: [true; PARAMETER_COUNT],
+            kept: true,
+        }
+    }
+
+    // Begins a request without pairs, if its name fits: all bytes behind that are zeros then.
+    pub fn begin(&mut self) -> Result<(), Refusal>
+        ensures answer { result ≡ begin_answer (draft_of self.old) }
+        ensures draft { draft_of self.new ≡ begin_in (draft_of self.old) }
+        ensures pairs { OnOk result (Holds (draft_of self.new) []) }
+        ensures lent { self.new.out.ghost_name ≡ self.old.out.ghost_name }
+    {
+        let name = self.name;
+        self.len = put_head(self.out, name)?;
+        self.given = [false; PARAMETER_COUNT];
+        self.kept = false;
+        Ok(())
+    }
+
+    // Adds a pair behind those before it.
+    pub fn add(&mut self, parameter: Parameter, value: &[u8]) -> Result<(), Refusal>
+        ensures answer { result ≡ add_answer (draft_of self.old) (pair parameter value.now) }
+        ensures draft { draft_of self.new ≡ add_to (draft_of self.old) (pair parameter value.now) }
+        ensures pairs { (xs : List Pair) → Holds (draft_of self.old) xs → Holds (draft_of self.new) (pairs_after result xs (pair parameter value.now)) }
+        ensures lent { self.new.out.ghost_name ≡ self.old.out.ghost_name }
+    {
+        let i = parameter.index();
+        if self.given[i] || !has(self.name, parameter) {
+            return Err(UNFIT);
+        }
+        if value.len() > VALUE_LIMIT {
+            return Err(NO_ROOM);
+        }
+        let at = self.len;
+        let first = at == self.name.word().len() + 2;
+        self.len = put_pair(self.out, at, first, parameter, value)?;
+        self.given[i] = true;
+        Ok(())
+    }
+
+    // The bytes are the caller's again, with the request in them.
+    pub fn finish(self) -> Finished
+        ensures len { result.len ≡ self.entry.len }
+        ensures bytes { self.exit.0.now ≡ self.entry.out.now }
+        ensures pairs { (xs : List Pair) → Holds (draft_of self.entry) xs → Stands self.entry.name xs self.exit.0.now result.len }
+        ensures reads { ReadsBack }
+    {
+        let RequestWriter {
+            out,
+            len,
+            name,
+            given,
+            kept: _,
+        } = self;
+        // dropped when this returns, and leaves the bytes
+        let kept = true;
+        let _closing = RequestWriter {
+            out,
+            len,
+            name,
+            given,
+            kept,
+        };
+        Finished { len }
+    }
+}

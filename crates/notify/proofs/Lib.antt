@@ -1,0 +1,4 @@
+pub mod Composing
+pub mod Apart
+pub mod Backing
+pub mod Updating

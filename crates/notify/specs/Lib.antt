@@ -1,0 +1,4 @@
+pub mod Given
+pub mod Composed
+pub mod Written
+pub mod Back

@@ -1,0 +1,5 @@
+pub mod Spellings
+pub mod Anewed
+pub mod Checks
+pub mod Sames
+pub mod Fed

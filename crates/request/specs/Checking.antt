@@ -1,0 +1,34 @@
+-- What is answered to a line.
+use Rattle.std.specs.Prelude.{ℕ, cond, List, [], ◌∷◌, ◌++◌, length, take, replicate, Some, None, Ok, Err, codes, decimal, Option, Result, nat_le}
+use Rattle.tlcp.specs.Lines.{and_then}
+use Rattle.row.specs.Faults.{number_of}
+use Rattle.tlcp.specs.Said.{on_ok}
+use Rattle.tlcp.specs.Lists.{refusal}
+use Rattle.row.specs.declared.fault.Fault.TheVariants.{Length, Shape}
+use Rattle.row.specs.declared.fault.Refusal.{Refusal}
+use Rattle.requests.specs.Limits.{request_limit}
+use Rattle.requests.specs.Requests.{Request, read_request}
+use Rattle.request.specs.Anew.{anew}
+use Rattle.request.specs.Limits.{spelled_limit}
+use Rattle.request.specs.Spelling.{spelled, unspelled}
+
+-- the request written anew
+abbrev pub anew_text : ℕ → Request → Result (List ℕ) Refusal
+anew_text session q = on_ok (λ d. take d.len d.bytes) (anew session q (replicate request_limit 0))
+
+-- what came of the bytes that a line stands for
+abbrev pub read_spelled : ℕ → Option (List ℕ) → Result (List ℕ) Refusal
+read_spelled session None = Err (refusal Shape 0)
+read_spelled session (Some t) = and_then (read_request session t) (anew_text session)
+
+-- what came of a line
+abbrev pub checked : ℕ → List ℕ → Result (List ℕ) Refusal
+checked session line = cond (nat_le (length line) spelled_limit) (read_spelled session (unspelled line)) (Err (refusal Length 0))
+
+abbrev pub answer_text : Result (List ℕ) Refusal → List ℕ
+answer_text (Ok t) = codes " ok " ++ spelled t
+answer_text (Err r) = codes " no " ++ (decimal (number_of r.fault) ++ (32 ∷ decimal r.place))
+
+-- the answer to the line with the number n
+abbrev pub answer_line : ℕ → ℕ → List ℕ → List ℕ
+answer_line session n line = decimal n ++ (answer_text (checked session line) ++ 10 ∷ [])

@@ -1,0 +1,14 @@
+// Sessions by their number.
+ghost use Rattle.std.specs.Prelude.{◌≡◌};
+ghost use Rattle.request.specs.Arguments.{session_named};
+
+use tlcp::read_number;
+
+const SESSION_LIMIT: u32 = 99_999;
+
+// The session that a word names.
+pub fn session_named(word: &str) -> Option<u32>
+    ensures { result ≡ session_named word.now }
+{
+    read_number(word.as_bytes(), 1, SESSION_LIMIT)
+}

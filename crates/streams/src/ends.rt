@@ -1,0 +1,68 @@
+// Where lines end. A block is searched part by part, and within a part with no branch on what a byte is: a wrong
+// guess at where a line ends costs more than the rest of the part.
+ghost use Rattle.std.specs.Prelude.{◌≡◌, ◌+◌, ◌≤◌, length, MatchOption};
+ghost use Rattle.std.specs.Option.{option_map};
+ghost use Rattle.tlcp.specs.Parts.{place_of, before, behind};
+ghost use Rattle.streams.specs.Ends.{holds, line_end};
+
+// The bytes that are looked at together.
+const PART: usize = 16;
+
+const LINE_END: u8 = b'\n';
+
+// Whether a line ends in the part.
+fn has_end(part: &[u8]) -> bool
+    ensures { result ≡ holds line_end part.now }
+{
+    let mut any = false;
+    for b in part {
+        any = any | (*b == LINE_END);
+    }
+    any
+}
+
+// The place of the first end in the part, or the part's length where there is none.
+fn end_in(part: &[u8]) -> usize
+    ensures value { result ≡ place_of line_end part.now }
+    ensures within { result ≤ length part.now }
+{
+    let mut end = 0;
+    // 1 before the first end, 0 from there on
+    let mut step = 1;
+    for b in part {
+        if *b == LINE_END {
+            step = 0;
+        }
+        end += step;
+    }
+    end
+}
+
+// The place of the first end, or the length where there is none.
+fn find_end(s: &[u8]) -> usize
+    ensures { result ≡ place_of line_end s.now }
+{
+    let mut at = 0;
+    while s.len() - at >= PART {
+        let part = &s[at..at + PART];
+        if has_end(part) {
+            return at + end_in(part);
+        }
+        at += PART;
+    }
+    at + end_in(&s[at..])
+}
+
+// What stands before the first end, and what stands behind it, if there is one.
+pub fn split_line(s: &[u8]) -> (&[u8], Option<&[u8]>)
+    ensures front { result.0.now ≡ before line_end s.now }
+    ensures back { option_map (λ x. x.now) result.1 ≡ behind line_end s.now }
+    ensures sizes { MatchOption result.1 (length result.0.now ≡ length s.now) (λ t. length result.0.now + (length t.now + 1) ≡ length s.now) }
+{
+    let end = find_end(s);
+    if end < s.len() {
+        (&s[0..end], Some(&s[end + 1..]))
+    } else {
+        (s, None)
+    }
+}
