@@ -29,7 +29,7 @@ fn chosen(rt: &HostRuntime) -> anyhow::Result<u32> {
     };
     match (session, words.next()) {
         (Some(session), None) => Ok(session),
-        _ => Err(USAGE.into()),
+        _ => Err(anyhow::anyhow!("{USAGE}")),
     }
 }
 
