@@ -14,6 +14,6 @@ returns-in-Some-Some c =
     let user = c.in-Some-Some.is-0 in
     let password = c.in-Some-Some.is-1 in
     anew-from c.args.session (create cid (option_map word_text c.args.user) (option_map word_text c.args.password)) c.args.out.now c.compose-in-Some-Some.result c.compose-in-Some-Some.new.out _
-    ((λ i. pair Cid (c.text.ensures i) ∷ pair User (c.text_in-Some-Some.ensures i) ∷ pair Password (codes "redacted") ∷ [])
+    ((λ i. pair Cid (c.text.ensures i) ∷ pair User (c.text-in-Some-Some.ensures i) ∷ pair Password (codes "redacted") ∷ [])
     ∙ sym (λ i. pairs_for c.args.session (create cid (option_map word_text (user i)) (option_map word_text (password i)))))
     c.compose-in-Some-Some.ensures.answer c.compose-in-Some-Some.ensures.bytes

@@ -14,4 +14,4 @@ pub returns : goal.returns
 returns c =
     let h = c.in-Ok.ensures in
     let digits = placed-appended 0 (decimal c.args.n) (replicate 20 0) c.in-Ok.len _ (room c.args.n (omega arith)) h.answer h.bytes in
-    c.in_ok-extend_from_slice.ensures.items ∙ ap (λ l. vec_items c.args.out.now ++ l) (ap (λ k. take k c.write_number.new.out) (sub-zero c.in-Ok.len) ∙ digits.bytes)
+    c.in_ok-extend_from_slice-in-Ok.ensures.items ∙ ap (λ l. vec_items c.args.out.now ++ l) (ap (λ k. take k c.write_number.new.out) (sub-zero c.in-Ok.len) ∙ digits.bytes)
