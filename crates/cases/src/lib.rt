@@ -2,8 +2,16 @@
 #![tactic(auto)]
 
 #[cfg(test)]
+mod composed;
+#[cfg(test)]
 mod decoded;
 #[cfg(test)]
 mod heard;
+#[cfg(test)]
+mod kinds;
+#[cfg(test)]
+mod notified;
+#[cfg(test)]
+mod requested;
 #[cfg(test)]
 mod written;

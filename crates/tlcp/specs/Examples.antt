@@ -2,6 +2,7 @@
 use Rattle.std.specs.Prelude.{◌≡◌, ℕ, List, [], ◌∷◌, replicate, Ok, Err, codes}
 use Rattle.row.specs.Rows.{Change, same, becomes, null, value, join}
 use Rattle.row.specs.Texts.{text_allowed}
+use Rattle.row.specs.Logics.{logic_allowed, logic_record}
 use Rattle.row.specs.declared.fault.Fault.TheVariants.{Number, Cover, Value}
 use Rattle.tlcp.specs.Lists.{read_list, written_list, text_value, refusal}
 
@@ -28,3 +29,7 @@ pub record Examples : Type 0 where
   pub long-read : read_list text_allowed 1 (replicate 32 97) ≡ Ok (to (replicate 32 97) ∷ [])
   pub too_long : read_list text_allowed 1 (replicate 33 97) ≡ Err (refusal Value 0)
   pub joining : (v w : List ℕ) → join (to v ∷ same ∷ becomes null ∷ []) (same ∷ to w ∷ same ∷ []) ≡ to v ∷ to w ∷ becomes null ∷ []
+
+pub record LogicExamples : Type 0 where
+  pub logic-words : logic_record (codes "01xz") ≡ record { a = 6; b = 3; width = 4 }
+  pub logic-empty : read_list logic_allowed 1 (codes "$") ≡ Err (refusal Value 0)

@@ -22,7 +22,7 @@ pub use class::{Class, all_of, is_of};
 pub use encode::{hex_digits, put_escaped};
 pub use ends::find_end;
 pub use escape::{decode, hex_of};
-pub use examples::worked_examples;
+pub use examples::{logic_examples, worked_examples};
 pub use line::{LINE_LIMIT, Line, Notification, read_line};
 pub use list::{UNCOVERED, read_list};
 pub use list_write::{LIST_LIMIT, write_list};

@@ -1,0 +1,203 @@
+// Requests, written by the viewer.
+use compose::{Pair as Given, RequestWriter, compose};
+use requests::{Name, Parameter};
+use row::Refusal;
+use std::process::Abort;
+use std::test::*;
+
+type Pair = (Parameter, &'static [u8]);
+
+const LONGEST: &[u8] = b"0123456789abcdef0123456789abcdef0123456789abcdef0123456789abcdef";
+
+const TOO_LONG: &[u8] = b"0123456789abcdef0123456789abcdef0123456789abcdef0123456789abcdef!";
+
+fn write(out: &mut [u8], name: Name, pairs: &[Pair]) -> Result<usize, Refusal> {
+    let mut request = RequestWriter::new(out, name);
+    request.begin()?;
+    for (parameter, value) in pairs.iter() {
+        request.add(*parameter, value)?;
+    }
+    Ok(request.finish().len)
+}
+
+fn are_all(bytes: &[u8], b: u8) -> bool {
+    for x in bytes {
+        if *x != b {
+            return false;
+        }
+    }
+    true
+}
+
+// The request stands in the bytes, and zeros behind it.
+fn check_bytes(
+    rt: &impl Abort,
+    out: &[u8],
+    answer: Result<usize, Refusal>,
+    text: &[u8],
+) -> Result<(), Fail> {
+    match answer {
+        Ok(len) => {
+            assert_eq!(rt; len, text.len());
+            assert!(rt; out.starts_with(text));
+            assert!(rt; len <= out.len() && are_all(&out[len..], 0));
+            Ok(())
+        }
+        Err(_) => Err(Fail::new("refused")),
+    }
+}
+
+fn check_fault(rt: &impl Abort, answer: Result<usize, Refusal>, number: u8) -> Result<(), Fail> {
+    match answer {
+        Ok(_) => Err(Fail::new("accepted")),
+        Err(refusal) => {
+            assert_eq!(rt; refusal.fault.number(), number);
+            assert_eq!(rt; refusal.place, 0);
+            Ok(())
+        }
+    }
+}
+
+fn check_request(rt: &impl Abort, name: Name, pairs: &[Pair], text: &[u8]) -> Result<(), Fail> {
+    let mut out = [b'?'; 300];
+    let answer = write(&mut out, name, pairs);
+    check_bytes(rt, &out, answer, text)
+}
+
+#[test]
+fn requests(rt: HostRuntime) -> Result<(), Fail> {
+    check_request(&rt, Name::CreateSession, &[], b"create_session\r\n")?;
+    check_request(
+        &rt,
+        Name::BindSession,
+        &[(Parameter::Session, b"S1")],
+        b"bind_session\r\nLS_session=S1",
+    )?;
+    check_request(
+        &rt,
+        Name::Control,
+        &[
+            (Parameter::RequestId, b"r1"),
+            (Parameter::Operation, b"add"),
+            (Parameter::SubscriptionId, b"1"),
+            (Parameter::Group, b"t1"),
+            (Parameter::Schema, b"all"),
+            (Parameter::Mode, b"MERGE"),
+            (Parameter::Snapshot, b"true"),
+        ],
+        b"control\r\nLS_reqId=r1&LS_op=add&LS_subId=1&LS_group=t1&LS_schema=all&LS_mode=MERGE&LS_snapshot=true",
+    )
+}
+
+// All but unreserved bytes are escaped, also where they mean something in a request.
+#[test]
+fn escaped_values(rt: HostRuntime) -> Result<(), Fail> {
+    check_request(
+        &rt,
+        Name::CreateSession,
+        &[
+            (Parameter::Cid, b"az09-._~"),
+            (Parameter::Password, b" &=%\xff/+"),
+        ],
+        b"create_session\r\nLS_cid=az09-._~&LS_password=%20%26%3D%25%FF%2F%2B",
+    )
+}
+
+// A request that its last pair spoils leaves only zeros.
+fn check_left(rt: &impl Abort, out: &mut [u8], pairs: &[Pair], number: u8) -> Result<(), Fail> {
+    out.fill(b'?');
+    let answer = write(out, Name::CreateSession, pairs);
+    check_fault(rt, answer, number)?;
+    assert!(rt; are_all(out, 0));
+    Ok(())
+}
+
+#[test]
+fn refused_pairs(rt: HostRuntime) -> Result<(), Fail> {
+    let password: Pair = (Parameter::Password, b"secret");
+    let mut out = [0u8; 300];
+    check_left(&rt, &mut out, &[password, password], 6)?;
+    check_left(&rt, &mut out, &[password, (Parameter::Mode, b"MERGE")], 6)?;
+    check_left(&rt, &mut out, &[password, (Parameter::User, TOO_LONG)], 16)?;
+    check_left(&rt, &mut [0u8; 33], &[password], 16)?;
+    check_left(&rt, &mut [0u8; 42], &[password, (Parameter::Cid, b"c")], 16)
+}
+
+// Bytes that are too few for the name stay as they were.
+#[test]
+fn refused_name(rt: HostRuntime) -> Result<(), Fail> {
+    let mut out = [b'?'; 15];
+    check_fault(&rt, write(&mut out, Name::CreateSession, &[]), 16)?;
+    assert!(rt; are_all(&out, b'?'));
+    Ok(())
+}
+
+// Refused pairs change nothing, and the request goes on.
+#[test]
+fn pairs_between_refusals(rt: HostRuntime) -> Result<(), Fail> {
+    let mut out = [b'?'; 120];
+    let mut request = RequestWriter::new(&mut out, Name::CreateSession);
+    assert!(rt; request.add(Parameter::Cid, b"c").is_err());
+    assert!(rt; request.begin().is_ok());
+    assert!(rt; request.add(Parameter::Cid, LONGEST).is_ok());
+    assert!(rt; request.add(Parameter::Cid, b"c").is_err());
+    assert!(rt; request.add(Parameter::Session, b"S1").is_err());
+    assert!(rt; request.add(Parameter::User, TOO_LONG).is_err());
+    assert!(rt; request.add(Parameter::User, LONGEST).is_err());
+    assert!(rt; request.add(Parameter::User, b"u").is_ok());
+    let len = request.finish().len;
+    check_bytes(
+        &rt,
+        &out,
+        Ok(len),
+        b"create_session\r\nLS_cid=0123456789abcdef0123456789abcdef0123456789abcdef0123456789abcdef&LS_user=u",
+    )
+}
+
+#[test]
+fn half_made(rt: HostRuntime) -> Result<(), Fail> {
+    let mut out = [b'?'; 64];
+    {
+        let mut request = RequestWriter::new(&mut out, Name::CreateSession);
+        assert!(rt; request.begin().is_ok());
+        assert!(rt; request.add(Parameter::Password, b"secret").is_ok());
+    }
+    assert!(rt; are_all(&out, 0));
+    Ok(())
+}
+
+fn login(out: &mut [u8], password: &[u8]) -> Result<usize, Refusal> {
+    compose(
+        out,
+        Name::CreateSession,
+        &[
+            Given {
+                parameter: Parameter::Cid,
+                value: b"c",
+            },
+            Given {
+                parameter: Parameter::User,
+                value: b"u",
+            },
+            Given {
+                parameter: Parameter::Password,
+                value: password,
+            },
+        ],
+    )
+}
+
+#[test]
+fn logins(rt: HostRuntime) -> Result<(), Fail> {
+    let mut out = [b'?'; 70];
+    let answer = login(&mut out, b"p w&=%\xff");
+    check_bytes(
+        &rt,
+        &out,
+        answer,
+        b"create_session\r\nLS_cid=c&LS_user=u&LS_password=p%20w%26%3D%25%FF",
+    )?;
+    check_fault(&rt, login(&mut out, TOO_LONG), 16)?;
+    assert!(rt; are_all(&out, 0));
+    Ok(())
+}

@@ -1,0 +1,110 @@
+// Values of each kind: their texts, their records, and what an unsound record means.
+use row::{LogicRecord, TEXT_LIMIT, TextRecord, Value};
+use std::process::Abort;
+use std::test::*;
+
+type Words = (u32, u32, u8);
+
+fn words_of(text: &[u8]) -> Option<Words> {
+    match <LogicRecord as Value>::read(text) {
+        Some(LogicRecord { a, b, width }) => Some((a, b, width)),
+        None => None,
+    }
+}
+
+// The record of a case is written as this text, with zeros behind it.
+fn check_written<R: Value>(rt: &impl Abort, case: usize, raw: &R, text: &[u8]) -> Result<(), Fail> {
+    let mut bytes = [0u8; TEXT_LIMIT];
+    for (to, from) in bytes.iter_mut().zip(text) {
+        *to = *from;
+    }
+    let mut out = [b'?'; TEXT_LIMIT];
+    assert_eq!(rt; raw.write(&mut out), text.len(), "case {case}");
+    assert!(rt; out == bytes, "case {case}");
+    Ok(())
+}
+
+#[test]
+fn logic_texts(rt: HostRuntime) -> Result<(), Fail> {
+    let table: [(&[u8], Words); 9] = [
+        (b"0", (0, 0, 1)),
+        (b"1", (1, 0, 1)),
+        (b"x", (1, 1, 1)),
+        (b"z", (0, 1, 1)),
+        (b"01xz", (6, 3, 4)),
+        (b"zx10", (6, 12, 4)),
+        (b"00000001", (1, 0, 8)),
+        (
+            b"10xz10xz10xz10xz10xz10xz10xz10xz",
+            (0xaaaa_aaaa, 0x3333_3333, 32),
+        ),
+        (
+            b"xxxxxxxxxxxxxxxxxxxxxxxxxxxxxxxx",
+            (0xffff_ffff, 0xffff_ffff, 32),
+        ),
+    ];
+    for (i, (text, (a, b, width))) in table.iter().enumerate() {
+        let (a, b, width) = (*a, *b, *width);
+        assert_eq!(rt; words_of(text), Some((a, b, width)), "text {i}");
+        check_written(&rt, i, &LogicRecord { a, b, width }, text)?;
+    }
+    Ok(())
+}
+
+#[test]
+fn not_logic(rt: HostRuntime) -> Result<(), Fail> {
+    let table: [&[u8]; 9] = [
+        b"",
+        b"2",
+        b"X",
+        b"Z",
+        b" ",
+        b"01 ",
+        b"\x00",
+        b"0b1",
+        b"000000000000000000000000000000000",
+    ];
+    for (i, text) in table.iter().enumerate() {
+        assert_eq!(rt; words_of(text), None, "text {i}");
+    }
+    Ok(())
+}
+
+// A width of 0 or 33, or a bit at or above the width: all mean `0`.
+#[test]
+fn unsound_logic(rt: HostRuntime) -> Result<(), Fail> {
+    let table: [Words; 8] = [
+        (0, 0, 0),
+        (1, 0, 0),
+        (0, 0, 33),
+        (1, 1, 255),
+        (2, 0, 1),
+        (0, 2, 1),
+        (0x8000_0000, 0, 31),
+        (0, 16, 4),
+    ];
+    for (i, (a, b, width)) in table.iter().enumerate() {
+        let raw = LogicRecord {
+            a: *a,
+            b: *b,
+            width: *width,
+        };
+        check_written(&rt, i, &raw, b"0")?;
+    }
+    Ok(())
+}
+
+// A length of 33, or a byte behind the length: both mean the empty text.
+#[test]
+fn unsound_text(rt: HostRuntime) -> Result<(), Fail> {
+    let bytes = [b'a'; TEXT_LIMIT];
+    check_written(&rt, 0, &TextRecord { bytes, len: 32 }, &bytes)?;
+    check_written(&rt, 1, &TextRecord { bytes, len: 33 }, b"")?;
+    check_written(&rt, 2, &TextRecord { bytes, len: 31 }, b"")
+}
+
+#[test]
+fn rest(rt: HostRuntime) -> Result<(), Fail> {
+    check_written(&rt, 0, &<LogicRecord as Value>::rest(), b"0")?;
+    check_written(&rt, 1, &<TextRecord as Value>::rest(), b"")
+}

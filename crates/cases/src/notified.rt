@@ -1,0 +1,374 @@
+// Lines written, and read back.
+use notify::{Message, write_line, write_update};
+use row::{Change, FIELD_LIMIT, Mark, TEXT_LIMIT, TextRecord};
+use std::process::Abort;
+use std::test::*;
+use tlcp::{LINE_LIMIT, Notification, Part, decode, read_line};
+
+// Whether a part stands for these bytes.
+fn is_text(part: Part<'_>, meant: &[u8]) -> bool {
+    let mut out = [0u8; LINE_LIMIT];
+    match decode(part.bytes, &mut out) {
+        Ok(len) => len == meant.len() && out.starts_with(meant),
+        Err(_) => false,
+    }
+}
+
+// Whether a line was read as this message.
+fn is_same(message: Message<'_>, says: Notification<'_>) -> bool {
+    match (message, says) {
+        (Message::Probe, Notification::Probe) => true,
+        (Message::Sync(n), Notification::Sync(m)) => m.value == n,
+        (Message::Loop(n), Notification::Loop(m)) => m.value == n,
+        (Message::Cons(text), Notification::Cons(part)) => is_text(part, text),
+        (Message::Servname(text), Notification::Servname(part)) => is_text(part, text),
+        (Message::Clientip(text), Notification::Clientip(part)) => is_text(part, text),
+        (Message::Reqok(text), Notification::Reqok(part)) => is_text(part, text),
+        (Message::Unsub(id), Notification::Unsub(m)) => m.value == id,
+        _ => is_same_longer(message, says),
+    }
+}
+
+fn is_same_longer(message: Message<'_>, says: Notification<'_>) -> bool {
+    match (message, says) {
+        (Message::Conerr(n, text), Notification::Conerr(code, part)) => {
+            code.value == n && is_text(part, text)
+        }
+        (Message::End(n, text), Notification::End(code, part)) => {
+            code.value == n && is_text(part, text)
+        }
+        (Message::Error(n, text), Notification::Error(code, part)) => {
+            code.value == n && is_text(part, text)
+        }
+        (Message::Eos { id }, Notification::Eos { id: read, item }) => {
+            read.value == id && item.value == 1
+        }
+        (
+            Message::Subok { id, fields },
+            Notification::Subok {
+                id: read,
+                items,
+                fields: count,
+            },
+        ) => read.value == id && items.value == 1 && count.value == fields,
+        (
+            Message::Ov { id, lost },
+            Notification::Ov {
+                id: read,
+                item,
+                lost: count,
+            },
+        ) => read.value == id && item.value == 1 && count.value == lost,
+        _ => is_same_longest(message, says),
+    }
+}
+
+fn is_same_longest(message: Message<'_>, says: Notification<'_>) -> bool {
+    match (message, says) {
+        (
+            Message::Conf {
+                id,
+                frequency,
+                filter,
+            },
+            Notification::Conf {
+                id: read,
+                frequency: first,
+                filter: second,
+            },
+        ) => read.value == id && is_text(first, frequency) && is_text(second, filter),
+        (
+            Message::Reqerr {
+                request,
+                code,
+                message,
+            },
+            Notification::Reqerr {
+                request: first,
+                code: read,
+                message: second,
+            },
+        ) => is_text(first, request) && read.value == code && is_text(second, message),
+        (
+            Message::Conok {
+                session,
+                limit,
+                keepalive,
+                link,
+            },
+            Notification::Conok {
+                session: first,
+                limit: most,
+                keepalive: pause,
+                link: second,
+            },
+        ) => {
+            is_text(first, session)
+                && most.value == limit
+                && pause.value == keepalive
+                && is_text(second, link)
+        }
+        _ => false,
+    }
+}
+
+fn check_line(rt: &impl Abort, case: usize, message: Message<'_>, line: &[u8]) -> Result<(), Fail> {
+    let mut out = [b'?'; LINE_LIMIT];
+    let written = write_line(&mut out, 0, message);
+    assert_eq!(rt; written, Ok(line.len()), "line {case}");
+    assert!(rt; out.starts_with(line), "line {case}");
+    let read = read_line(line);
+    assert!(rt; read.is_ok(), "line {case} is not read");
+    match read {
+        Ok(read) => {
+            assert!(rt; is_same(message, read.says), "line {case}");
+            Ok(())
+        }
+        Err(_) => Err(Fail::new("not read")),
+    }
+}
+
+// One message of every tag, by the rules of lines.
+#[test]
+fn lines(rt: HostRuntime) -> Result<(), Fail> {
+    let table: [(Message<'_>, &[u8]); 17] = [
+        (Message::Probe, b"PROBE"),
+        (Message::Sync(120), b"SYNC,120"),
+        (Message::Loop(0), b"LOOP,0"),
+        (Message::Cons(b"unlimited"), b"CONS,unlimited"),
+        (Message::Servname(b"a server"), b"SERVNAME,a server"),
+        (Message::Clientip(b"127.0.0.1"), b"CLIENTIP,127.0.0.1"),
+        (Message::Reqok(b"7"), b"REQOK,7"),
+        (Message::Unsub(3), b"UNSUB,3"),
+        (
+            Message::Conerr(-5, b"no, thanks"),
+            b"CONERR,-5,no%2C thanks",
+        ),
+        (Message::End(31, b"a|b\r\n%"), b"END,31,a%7Cb%0D%0A%25"),
+        (Message::Error(0, b""), b"ERROR,0,"),
+        (Message::Eos { id: 3 }, b"EOS,3,1"),
+        (Message::Subok { id: 3, fields: 12 }, b"SUBOK,3,1,12"),
+        (
+            Message::Ov {
+                id: 9999,
+                lost: 999_999_999,
+            },
+            b"OV,9999,1,999999999",
+        ),
+        (
+            Message::Conf {
+                id: 1,
+                frequency: b"unlimited",
+                filter: b"filtered",
+            },
+            b"CONF,1,unlimited,filtered",
+        ),
+        (
+            Message::Reqerr {
+                request: b"7",
+                code: -999_999,
+                message: b"\xc3\xa9#$^",
+            },
+            b"REQERR,7,-999999,%C3%A9#$^",
+        ),
+        (
+            Message::Conok {
+                session: b"S1",
+                limit: 2048,
+                keepalive: 5000,
+                link: b"*",
+            },
+            b"CONOK,S1,2048,5000,*",
+        ),
+    ];
+    for (i, (message, line)) in table.iter().enumerate() {
+        check_line(&rt, i, *message, line)?;
+    }
+    Ok(())
+}
+
+// The number of the refusal, or 0.
+fn fault_of(message: Message<'_>) -> u8 {
+    let mut out = [b'?'; LINE_LIMIT];
+    match write_line(&mut out, 0, message) {
+        Ok(_) => 0,
+        Err(refusal) => refusal.fault.number(),
+    }
+}
+
+#[test]
+fn limits(rt: HostRuntime) -> Result<(), Fail> {
+    let table: [(Message<'_>, u8); 19] = [
+        (Message::Sync(999_999_999), 0),
+        (Message::Sync(1_000_000_000), 4),
+        (Message::Loop(1_000_000_000), 4),
+        (Message::Unsub(0), 4),
+        (Message::Unsub(9999), 0),
+        (Message::Unsub(10_000), 4),
+        (Message::Conerr(1_000_000, b""), 4),
+        (Message::End(-1_000_000, b""), 4),
+        (Message::Error(999_999, b""), 0),
+        (Message::Error(-999_999, b""), 0),
+        (Message::Eos { id: 0 }, 4),
+        (Message::Subok { id: 1, fields: 0 }, 4),
+        (Message::Subok { id: 1, fields: 12 }, 0),
+        (Message::Subok { id: 1, fields: 13 }, 4),
+        (Message::Subok { id: 0, fields: 1 }, 4),
+        (
+            Message::Ov {
+                id: 1,
+                lost: 1_000_000_000,
+            },
+            4,
+        ),
+        (
+            Message::Conf {
+                id: 10_000,
+                frequency: b"",
+                filter: b"",
+            },
+            4,
+        ),
+        (
+            Message::Reqerr {
+                request: b"",
+                code: -1_000_000,
+                message: b"",
+            },
+            4,
+        ),
+        (
+            Message::Conok {
+                session: b"",
+                limit: 0,
+                keepalive: 1_000_000_000,
+                link: b"",
+            },
+            4,
+        ),
+    ];
+    for (i, (message, number)) in table.iter().enumerate() {
+        assert_eq!(rt; fault_of(*message), *number, "message {i}");
+    }
+    Ok(())
+}
+
+#[test]
+fn lengths(rt: HostRuntime) -> Result<(), Fail> {
+    let plain = [b'a'; LINE_LIMIT - 8];
+    assert_eq!(rt; fault_of(Message::Servname(&plain[1..])), 0);
+    assert_eq!(rt; fault_of(Message::Servname(&plain)), 16);
+    let commas = [b','; 390];
+    assert_eq!(rt; fault_of(Message::Cons(&commas[1..])), 0);
+    assert_eq!(rt; fault_of(Message::Cons(&commas)), 16);
+    // numbers are looked at first
+    let message = Message::Conok {
+        session: &plain,
+        limit: 1_000_000_000,
+        keepalive: 0,
+        link: b"",
+    };
+    assert_eq!(rt; fault_of(message), 4);
+    Ok(())
+}
+
+#[test]
+fn places(rt: HostRuntime) -> Result<(), Fail> {
+    let table: [(usize, usize, &[u8]); 5] = [
+        (0, 5, b"PROBE???"),
+        (2, 7, b"??PROBE?"),
+        (3, 8, b"???PROBE"),
+        (4, 0, b"????????"),
+        (9, 0, b"????????"),
+    ];
+    for (at, end, bytes) in table.iter() {
+        let mut out = [b'?'; 8];
+        match write_line(&mut out, *at, Message::Probe) {
+            Ok(place) => assert_eq!(rt; place, *end),
+            Err(refusal) => assert_eq!(rt; (refusal.fault.number(), *end), (16, 0)),
+        }
+        assert!(rt; out.as_slice() == *bytes, "place {at}");
+    }
+    Ok(())
+}
+
+// Twelve values of 32 bytes FF.
+const LONGEST: [Change<TextRecord>; FIELD_LIMIT] = [Change {
+    mark: Mark::Value,
+    raw: TextRecord {
+        bytes: [0xff; TEXT_LIMIT],
+        len: 32,
+    },
+}; FIELD_LIMIT];
+
+// The end of an update of that row, or the number of the refusal.
+fn update(out: &mut [u8], id: u32, changes: usize, fields: usize) -> Result<usize, u8> {
+    let delta = LONGEST;
+    match write_update(out, 0, id, &delta[..changes.min(FIELD_LIMIT)], fields) {
+        Ok(end) => Ok(end),
+        Err(refusal) => Err(refusal.fault.number()),
+    }
+}
+
+#[test]
+fn updates(rt: HostRuntime) -> Result<(), Fail> {
+    let table: [(u32, usize, usize, Result<usize, u8>); 9] = [
+        (0, 11, 0, Err(1)),
+        (0, 12, 0, Err(4)),
+        (10_000, 12, 1, Err(4)),
+        (1, 12, 0, Err(7)),
+        (1, 12, 13, Err(7)),
+        (1, 12, 1, Ok(102)),
+        (10, 12, 2, Ok(200)),
+        (9999, 12, 11, Ok(1075)),
+        (9999, 12, 12, Ok(LINE_LIMIT)),
+    ];
+    for (i, (id, changes, fields, answer)) in table.iter().enumerate() {
+        let mut out = [b'?'; LINE_LIMIT];
+        assert!(rt;
+            update(&mut out, *id, *changes, *fields) == *answer,
+            "update {i}"
+        );
+    }
+    Ok(())
+}
+
+#[test]
+fn longest_update(rt: HostRuntime) -> Result<(), Fail> {
+    let mut small = [b'?'; LINE_LIMIT - 1];
+    assert!(rt; update(&mut small, 9999, 12, 12) == Err(16));
+    let mut out = [b'?'; LINE_LIMIT];
+    assert!(rt; update(&mut out, 9999, 12, 12) == Ok(LINE_LIMIT));
+    assert!(rt; out.starts_with(b"U,9999,1,%FF%FF"));
+    assert!(rt;
+        out.ends_with(
+            b"%FF|%FF%FF%FF%FF%FF%FF%FF%FF%FF%FF%FF%FF%FF%FF%FF%FF%FF%FF%FF%FF%FF%FF%FF%FF%FF%FF%FF%FF%FF%FF%FF%FF",
+        )
+    );
+    Ok(())
+}
+
+// An update is read as such, its list at its place.
+#[test]
+fn update_read_back(rt: HostRuntime) -> Result<(), Fail> {
+    let same = Change {
+        mark: Mark::Same,
+        raw: LONGEST[0].raw,
+    };
+    let mut delta = [same; FIELD_LIMIT];
+    delta[1].mark = Mark::Null;
+    let mut out = [b'?'; 20];
+    assert!(rt; write_update(&mut out, 2, 70, &delta, 8).is_ok());
+    assert!(rt; out.starts_with(b"??U,70,1,|#|^6??????"));
+    match read_line(b"U,70,1,|#|^6") {
+        Ok(line) => match line.says {
+            Notification::U { id, item, values } => {
+                assert_eq!(rt; (id.value, item.value, values.at), (70, 1, 7));
+                assert!(rt; values.bytes == b"|#|^6".as_slice());
+                Ok(())
+            }
+            _ => Err(Fail::new("another message")),
+        },
+        Err(_) => Err(Fail::new("not read")),
+    }
+}
