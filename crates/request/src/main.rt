@@ -12,7 +12,7 @@ mod unspell;
 use checker::Checker;
 use session::session_named;
 use std::env;
-use std::io::{Print, Read, Write};
+use std::io::{Read, Write};
 
 const BLOCK: usize = 65536;
 
@@ -60,9 +60,5 @@ fn run(rt: &HostRuntime) -> anyhow::Result<()> {
 }
 
 fn main(rt: HostRuntime) -> anyhow::Result<()> {
-    let result = run(&rt);
-    if let Err(error) = &result {
-        let _ = rt.stderr().println(format_args!("request: {error}"));
-    }
-    result
+    run(&rt)
 }
