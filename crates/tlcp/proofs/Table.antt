@@ -59,6 +59,9 @@ each f e Plain = nth f classes e 6 (lit< tt)
 abbrev pub right : ℕ → ℕ → Bool
 right b x = all (λ class. agree (has x class) (in_class class b)) classes
 
+pub has-class : (b x : ℕ) → right b x ≡ true → (class : Class) → has x class ≡ in_class class b
+has-class b x e class = same-from-agree _ _ (each (λ k. agree (has x k) (in_class k b)) e class)
+
 abbrev pub table : List ℕ
 table =
     28 ∷ 28 ∷ 28 ∷ 28 ∷ 28 ∷ 28 ∷ 28 ∷ 28 ∷ 28 ∷ 28 ∷ 28 ∷ 28 ∷ 28 ∷ 28 ∷ 28 ∷ 28 ∷ 28 ∷ 28 ∷ 28 ∷ 28 ∷ 28 ∷ 28 ∷ 28 ∷ 28 ∷ 28 ∷ 28 ∷ 28 ∷ 28 ∷ 28 ∷ 28 ∷ 28 ∷ 28
@@ -71,5 +74,4 @@ table =
     ∷ 28 ∷ 28 ∷ 28 ∷ 28 ∷ 28 ∷ 28 ∷ 28 ∷ 28 ∷ 28 ∷ 28 ∷ 28 ∷ 28 ∷ 28 ∷ 28 ∷ 28 ∷ 28 ∷ 28 ∷ 28 ∷ 28 ∷ 28 ∷ 28 ∷ 28 ∷ 28 ∷ 28 ∷ 28 ∷ 28 ∷ 28 ∷ 28 ∷ 28 ∷ 28 ∷ 28 ∷ 28 ∷ []
 
 pub rule : (b : ℕ) (class : Class) → b < 256 → has (get_or table b 0) class ≡ in_class class b
-rule b class h =
-    same-from-agree _ _ (each (λ k. agree (has (get_or table b 0) k) (in_class k b)) (at right table refl b h) class)
+rule b class h = has-class b (get_or table b 0) (at right table refl b h) class
