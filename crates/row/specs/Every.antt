@@ -3,9 +3,10 @@ use Rattle.std.specs.Prelude.{◌≡◌, ℕ, zero, suc, ◌+◌, ◌-◌, ◌<�
 use Rattle.std.proofs.Common.{sym, ap, ◌∙◌, ⊎_elim, append_assoc, le_of_suc-le-suc, not-suc-le-zero, arith}
 use Rattle.std.specs.List.{AllByRecursion}
 use Rattle.std.proofs.lemmas.List.{get_or-drop, length-drop, length-take, take-append-drop, take_more, take_all, drop_all, drop-append-le, drop_at, set_at, length-append, length-replicate, length-take-le, take_at}
-use Rattle.std.proofs.lemmas.Bool.{both_ways, and_parts, and_from, cases_lt, cases_Bool, ltb-true, leb-true, eqb-true, le-leb, eq-eqb, cond-true, cond_both}
+use Rattle.std.proofs.lemmas.Bool.{both_ways, and_parts, and_from, cases_lt, cases_Bool, ltb-true, leb-true, eqb-true, le-leb, eq-eqb, cond-true, cond-false, cond_both}
 use Rattle.row.specs.Texts.{every, is_byte, is_zero, padded, text_allowed, text_sound, text_whole, text_of, text_record, text_kind}
-use Rattle.row.specs.Kinds.{Kind, Lawful, Apart}
+use Rattle.row.specs.Limits.{text_limit}
+use Rattle.row.specs.Kinds.{Kind, Lawful, Represents}
 use Rattle.row.specs.declared.text.TextRecord.{TextRecord}
 
 pub every_append : (p : ℕ → Bool) (xs ys : List ℕ) → every p xs ≡ true → every p ys ≡ true → every p (xs ++ ys) ≡ true
@@ -51,17 +52,14 @@ every-from-more p xs n i x h read e f =
     ∙ every_append p (drop n (take i xs)) (slice_index xs i ∷ []) e (and_from _ true (ap p (sym read) ∙ f above) refl))
     (cases_lt i n)
 
-pub all-bytes : (t : List ℕ) → every is_byte t ≡ true → AllByRecursion (λ b. b < 256) t
-all-bytes [] e = tt
-all-bytes (x ∷ xs) e =
-    let h = and_parts (is_byte x) (every is_byte xs) e in
-    (ltb-true x 256 h.0, all-bytes xs h.1)
-
 pub every-all : (p : ℕ → Bool) (P : ℕ → Type 0) → ((x : ℕ) → p x ≡ true → P x) → (t : List ℕ) → every p t ≡ true → AllByRecursion P t
 every-all p P f [] e = tt
 every-all p P f (x ∷ xs) e =
     let h = and_parts (p x) (every p xs) e in
     (f x h.0, every-all p P f xs h.1)
+
+pub all-bytes : (t : List ℕ) → every is_byte t ≡ true → AllByRecursion (λ b. b < 256) t
+all-bytes = every-all is_byte (λ b. b < 256) (λ b. ltb-true b 256)
 
 pub length-padded : (n : ℕ) (xs : List ℕ) → length xs ≤ n → length (padded n xs) ≡ n
 length-padded n xs h =
@@ -149,21 +147,22 @@ text-lawful = record {
 pub apart_from : {R : Type 0} (k : Kind R) (whole : R → Bool) → ((r : R) → whole r ≡ true → k.raw (k.text r) ≡ r) → (r s : R) → whole r ≡ true → whole s ≡ true → k.text r ≡ k.text s → r ≡ s
 apart_from k whole back r s e f same = sym (back r e) ∙ ap k.raw same ∙ back s f
 
-pub text-apart : Apart text_kind text_whole
-text-apart = record {
-  raw-whole = λ t e. and_from _ _ (eq-eqb _ 32 (length-padded 32 t (leb-true (length t) 32 (and_parts (nat_le (length t) 32) (every is_byte t) e).0))) (record-sound t e);
+pub text-represents : Represents text_kind text_sound text_whole
+text-represents = record {
+  raw-whole = λ t e. and_from _ _ (eq-eqb _ text_limit (length-padded text_limit t (leb-true (length t) text_limit (and_parts (nat_le (length t) text_limit) (every is_byte t) e).0))) (record-sound t e);
+  unsound = λ r e. cond-false (text_sound r) (take r.len r.bytes) [] e;
   apart = apart_from text_kind text_whole raw-text;
 }
   where
     raw-text : (r : TextRecord) → text_whole r ≡ true → text_record (text_of r) ≡ r
     raw-text r e =
-        let h = and_parts (length r.bytes == 32) (text_sound r) e in
-        let k = and_parts (nat_le r.len 32) _ h.1 in
-        let small = leb-true r.len 32 k.0 in
+        let h = and_parts (length r.bytes == text_limit) (text_sound r) e in
+        let k = and_parts (nat_le r.len text_limit) _ h.1 in
+        let small = leb-true r.len text_limit k.0 in
         let zeros = (and_parts (every is_byte r.bytes) (every is_zero (drop r.len r.bytes)) k.1).1 in
-        let long = eqb-true (length r.bytes) 32 h.0 in
+        let long = eqb-true (length r.bytes) text_limit h.0 in
         let front : length (take r.len r.bytes) ≡ r.len = length-take-le r.len r.bytes (omega arith) in
-        let whole = padded-front r.len 32 r.bytes small long zeros in
+        let whole = padded-front r.len text_limit r.bytes small long zeros in
         ap text_record (cond-true (text_sound r) (take r.len r.bytes) [] h.1) ∙ (λ i. record { bytes = sym whole i; len = front i })
 
 pub none-from-cond : {X : Type 0} (b : Bool) (y : X) → None ≡ cond b (Some y) None → b ≡ false

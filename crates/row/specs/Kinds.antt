@@ -1,5 +1,5 @@
 -- What a kind of value is: how its plain records in memory stand for texts.
-use Rattle.std.specs.Prelude.{◌≡◌, ℕ, ◌<◌, ◌≤◌, Bool, true, List, length}
+use Rattle.std.specs.Prelude.{◌≡◌, ℕ, ◌<◌, ◌≤◌, Bool, true, false, List, length}
 use Rattle.std.specs.List.{AllByRecursion}
 use Rattle.row.specs.Limits.{text_limit}
 
@@ -24,7 +24,11 @@ pub record Lawful {R : Type 0} (k : Kind R) : Type 0 where
 abbrev pub rest_record : {R : Type 0} → Kind R → R
 rest_record k = k.raw k.rest
 
--- of the whole records, no two have the same text, and a text's own record is one of them
-pub record Apart {R : Type 0} (k : Kind R) (whole : R → Bool) : Type 0 where
+-- how records stand for values, where `sound` says which records hold one and `whole` which of these memory can hold
+pub record Represents {R : Type 0} (k : Kind R) (sound whole : R → Bool) : Type 0 where
+  -- a text's own record holds it
   pub raw-whole : (t : List ℕ) → k.allowed t ≡ true → whole (k.raw t) ≡ true
+  -- a record that holds no value means the rest value
+  pub unsound : (r : R) → sound r ≡ false → k.text r ≡ k.rest
+  -- no two values share a text
   pub apart : (r s : R) → whole r ≡ true → whole s ≡ true → k.text r ≡ k.text s → r ≡ s

@@ -6,9 +6,9 @@ use Rattle.std.specs.Int.Digits.{number_from_digits, number_from_digits_after, A
 use Rattle.std.proofs.lemmas.List.{length-map, length-take, map_more, take_all}
 use Rattle.std.proofs.lemmas.Int.Digits.{number_lt, number_push}
 use Rattle.std.proofs.lemmas.Nat.{pow_pos, mod-pow-add, mod_below, div-mul-add, mod-mul-add}
-use Rattle.std.proofs.lemmas.Bool.{and_parts, and_from, and_right, or_cases, ltb-true, leb-true, eqb-true, lt-ltb, le-leb, cond-true, cond_both}
+use Rattle.std.proofs.lemmas.Bool.{and_parts, and_from, and_right, or_cases, ltb-true, leb-true, eqb-true, lt-ltb, le-leb, cond-true, cond-false, cond_both}
 use Rattle.row.specs.Limits.{text_limit}
-use Rattle.row.specs.Kinds.{Lawful, Apart}
+use Rattle.row.specs.Kinds.{Lawful, Represents}
 use Rattle.row.specs.Texts.{every, padded}
 use Rattle.row.specs.Logics.{low, high, unknown, floating, is_logic, bit_a, bit_b, char_of, bit_at, chars_of, is_width, logic_allowed, logic_sound, logic_text, logic_record, logic_kind}
 use Rattle.row.specs.declared.logic.LogicRecord.{LogicRecord}
@@ -181,8 +181,12 @@ logic-lawful = record {
     chars-allowed r e =
         and_from _ _ (ap is_width (length-chars_of r.a r.b r.width) ∙ (sound-parts r e).0) (every-chars_of r.a r.b r.width)
 
-pub logic-apart : Apart logic_kind logic_sound
-logic-apart = record { raw-whole = record-sound; apart = apart_from logic_kind logic_sound raw-text }
+pub logic-represents : Represents logic_kind logic_sound logic_sound
+logic-represents = record {
+  raw-whole = record-sound;
+  unsound = λ r e. cond-false (logic_sound r) (chars_of r.width r.a r.b) (low ∷ []) e;
+  apart = apart_from logic_kind logic_sound raw-text;
+}
 
 -- writing
 

@@ -13,4 +13,4 @@ pub use change::{
 pub use fault::{Fault, Refusal};
 pub use logic::{Logic, LogicRecord};
 pub use text::{TEXT_LIMIT, Text, TextRecord};
-pub use value::{Value, values_differ_in_text};
+pub use value::{Value, records_stand_for_values};

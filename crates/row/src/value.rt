@@ -1,8 +1,8 @@
 // A kind of value, by the plain records that stand for its values in memory.
 ghost use Rattle.std.specs.Prelude.{◌≡◌, ℕ, length, if◌then◌else◌, Some, None};
-ghost use Rattle.row.specs.Kinds.{Kind, Lawful, Apart, rest_record};
+ghost use Rattle.row.specs.Kinds.{Kind, Lawful, Represents, rest_record};
 ghost use Rattle.row.specs.Limits.{text_limit};
-ghost use Rattle.row.specs.Texts.{padded, text_kind, text_whole};
+ghost use Rattle.row.specs.Texts.{padded, text_kind, text_sound, text_whole};
 ghost use Rattle.row.specs.Logics.{logic_kind, logic_sound};
 ghost use Rattle.row.specs.Every.{text-lawful};
 
@@ -61,8 +61,8 @@ impl Value for TextRecord {
     }
 }
 
-// No two values of a kind share a text. Nothing to run: the contract says it.
-pub fn values_differ_in_text()
-    ensures text { Apart text_kind text_whole }
-    ensures logic { Apart logic_kind logic_sound }
+// How the records of each kind stand for its values. Nothing to run: the contract says it.
+pub fn records_stand_for_values()
+    ensures text { Represents text_kind text_sound text_whole }
+    ensures logic { Represents logic_kind logic_sound logic_sound }
 {}

@@ -1,12 +1,12 @@
 -- Texts with any bytes escaped: what they hold, how long they are, and that they are read back.
-use Rattle.std.proofs.Common.{◌≡◌, ℕ, ◌+◌, ◌*◌, ◌/◌, ◌%◌, ◌<◌, ◌≤◌, Bool, true, false, eqb, List, [], ◌∷◌, ◌++◌, length, take, drop, Some, None, Ok, Option, sym, refl, ap, ◌∙◌, arith}
+use Rattle.std.proofs.Common.{◌≡◌, ℕ, ◌*◌, ◌/◌, ◌%◌, ◌<◌, ◌≤◌, Bool, true, false, eqb, List, [], ◌∷◌, ◌++◌, length, take, drop, Some, None, Ok, Option, sym, refl, ap, ◌∙◌, arith}
 use Rattle.std.specs.List.{AllByRecursion}
 use Rattle.std.proofs.lemmas.List.{length-append, take_all, take_at}
 use Rattle.std.proofs.lemmas.Bool.{both_ways, or_parts, or_from, ne_eqb}
 use Rattle.tlcp.specs.Bytes.{is_hex, is_escaped, is_escaped_first}
 use Rattle.tlcp.specs.Dividing.{has}
 use Rattle.tlcp.specs.Escapes.{count_or, overlaid, Decodes, nothing, hex_digit, spelled, encoded_by, encode_rest, encode}
-use Rattle.tlcp.proofs.Unescaped.{is-hex, decodes-spelled, plain-percent, length-spelled}
+use Rattle.tlcp.proofs.Unescaped.{is-hex, decodes-spelled, length-spelled}
 
 -- what `decode` answers where there is no fault, and what it leaves in its buffer
 pub sound-answer : (n : ℕ) (t : List ℕ) (f : Option ℕ) → Ok n ≡ count_or (length t) f → (n ≡ length t) × (f ≡ None)

@@ -15,6 +15,7 @@ mod number;
 mod part;
 mod shape;
 mod tag;
+mod theorems;
 mod write;
 
 pub use argument::{Code, Number};
@@ -30,4 +31,5 @@ pub use number::{CODE_LIMIT, read_code, read_number};
 pub use part::{Part, find, is_word, split};
 pub use shape::{COUNT_LIMIT, ID_LIMIT};
 pub use tag::Tag;
+pub use theorems::theorems_on_texts;
 pub use write::{put, write_number};
