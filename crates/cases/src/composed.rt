@@ -14,19 +14,14 @@ const TOO_LONG: &[u8] = b"0123456789abcdef0123456789abcdef0123456789abcdef012345
 fn write(out: &mut [u8], name: Name, pairs: &[Pair]) -> Result<usize, Refusal> {
     let mut request = RequestWriter::new(out, name);
     request.begin()?;
-    for (parameter, value) in pairs.iter() {
+    for (parameter, value) in pairs {
         request.add(*parameter, value)?;
     }
     Ok(request.finish().len)
 }
 
 fn are_all(bytes: &[u8], b: u8) -> bool {
-    for x in bytes {
-        if *x != b {
-            return false;
-        }
-    }
-    true
+    bytes.iter().all(|x| *x == b)
 }
 
 // The request stands in the bytes, and zeros behind it.
@@ -51,7 +46,7 @@ fn check_fault(rt: &impl Abort, answer: Result<usize, Refusal>, number: u8) -> R
     match answer {
         Ok(_) => Err(Fail::new("accepted")),
         Err(refusal) => {
-            assert_eq!(rt; refusal.fault.number(), number);
+            assert_eq!(rt; u8::from(refusal.fault), number);
             assert_eq!(rt; refusal.place, 0);
             Ok(())
         }
@@ -171,18 +166,9 @@ fn login(out: &mut [u8], password: &[u8]) -> Result<usize, Refusal> {
         out,
         Name::CreateSession,
         &[
-            Given {
-                parameter: Parameter::Cid,
-                value: b"c",
-            },
-            Given {
-                parameter: Parameter::User,
-                value: b"u",
-            },
-            Given {
-                parameter: Parameter::Password,
-                value: password,
-            },
+            Given::new(Parameter::Cid, b"c"),
+            Given::new(Parameter::User, b"u"),
+            Given::new(Parameter::Password, password),
         ],
     )
 }

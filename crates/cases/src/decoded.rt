@@ -1,4 +1,5 @@
 // Texts with escapes, and the bytes that they stand for.
+use row::Fault;
 use std::test::*;
 use tlcp::decode;
 
@@ -46,7 +47,11 @@ fn unsound(rt: HostRuntime) -> Result<(), Fail> {
     ];
     for (i, (text, place)) in table.iter().enumerate() {
         let mut out = [b'?'; ROOM];
-        assert_eq!(rt; decode(text, &mut out), Err(*place), "text {i}");
+        assert_eq!(rt;
+            decode(text, &mut out),
+            Err(Fault::Escape.at(*place)),
+            "text {i}"
+        );
     }
     Ok(())
 }

@@ -1,18 +1,13 @@
 // Lines that a viewer hears, and what comes of them.
-use Answer::{No, Passed, Taken};
 use row::{Cell, Change, FIELD_LIMIT, Mark, TextRecord, Value, whole_row};
 use std::process::Abort;
 use std::test::*;
 use tlcp::{LINE_LIMIT, LIST_LIMIT, write_list};
+use viewer::Heard::{Passed, Taken};
 use viewer::{CELL_LIMIT, Heard, TAP_LIMIT, Viewer};
 
-// A refusal has its fault's number and its place.
-#[derive(Clone, Copy, PartialEq, Debug)]
-enum Answer {
-    Taken,
-    Passed,
-    No(u8, usize),
-}
+// A refusal is its fault's number and its place.
+type Answer = Result<Heard, (u8, usize)>;
 
 #[derive(Drop)]
 struct Listener {
@@ -40,11 +35,9 @@ impl Listener {
     }
 
     fn hear(&mut self, line: &[u8]) -> Answer {
-        match self.viewer.hear(line, &mut self.cells, &mut self.delta) {
-            Ok(Heard::Taken) => Taken,
-            Ok(Heard::Passed) => Passed,
-            Err(refusal) => No(refusal.fault.number(), refusal.place),
-        }
+        self.viewer
+            .hear(line, &mut self.cells, &mut self.delta)
+            .map_err(|refusal| (u8::from(refusal.fault), refusal.place))
     }
 
     // Checks the first fields of a tap's row, written as a list.
@@ -85,30 +78,30 @@ fn documented(rt: HostRuntime) -> Result<(), Fail> {
     let listener = hear_all(
         &rt,
         &[
-            (b"CONOK,S73d162c183916f0dT2729905,50000,5000,*", Taken),
-            (b"SERVNAME,Lightstreamer HTTP Server", Taken),
-            (b"CLIENTIP,127.0.0.1", Taken),
-            (b"CLIENTIP,::1", Taken),
-            (b"CONS,50", Taken),
-            (b"CONS,unlimited", Taken),
-            (b"SYNC,120", Taken),
-            (b"PROBE", Taken),
-            (b"LOOP,0", Taken),
-            (b"SUBOK,3,1,10", Taken),
-            (b"SUBOK,1,1,3", Taken),
-            (b"CONF,3,3.0,filtered", Taken),
-            (b"CONF,1,unlimited,filtered", Taken),
-            (b"U,1,1,Anduct|11:02:33|3.11", Taken),
-            (b"U,1,1,|11:03:39|", Taken),
-            (b"U,1,1,|11:04:29|3.09", Taken),
-            (b"OV,3,1,5", Taken),
-            (b"EOS,3,1", Taken),
-            (b"REQOK,7", Taken),
-            (b"REQERR,7,19,Specified subscription not found", Taken),
-            (b"UNSUB,3", Taken),
-            (b"CONERR,2,Requested Adapter Set not available", Taken),
-            (b"END,31,Destroy invoked by client", Taken),
-            (b"ERROR,-5,oops", Taken),
+            (b"CONOK,S73d162c183916f0dT2729905,50000,5000,*", Ok(Taken)),
+            (b"SERVNAME,Lightstreamer HTTP Server", Ok(Taken)),
+            (b"CLIENTIP,127.0.0.1", Ok(Taken)),
+            (b"CLIENTIP,::1", Ok(Taken)),
+            (b"CONS,50", Ok(Taken)),
+            (b"CONS,unlimited", Ok(Taken)),
+            (b"SYNC,120", Ok(Taken)),
+            (b"PROBE", Ok(Taken)),
+            (b"LOOP,0", Ok(Taken)),
+            (b"SUBOK,3,1,10", Ok(Taken)),
+            (b"SUBOK,1,1,3", Ok(Taken)),
+            (b"CONF,3,3.0,filtered", Ok(Taken)),
+            (b"CONF,1,unlimited,filtered", Ok(Taken)),
+            (b"U,1,1,Anduct|11:02:33|3.11", Ok(Taken)),
+            (b"U,1,1,|11:03:39|", Ok(Taken)),
+            (b"U,1,1,|11:04:29|3.09", Ok(Taken)),
+            (b"OV,3,1,5", Ok(Taken)),
+            (b"EOS,3,1", Ok(Taken)),
+            (b"REQOK,7", Ok(Taken)),
+            (b"REQERR,7,19,Specified subscription not found", Ok(Taken)),
+            (b"UNSUB,3", Ok(Taken)),
+            (b"CONERR,2,Requested Adapter Set not available", Ok(Taken)),
+            (b"END,31,Destroy invoked by client", Ok(Taken)),
+            (b"ERROR,-5,oops", Ok(Taken)),
         ],
     )?;
     listener.check_row(&rt, 0, 3, b"Anduct|11:04:29|3.09")
@@ -119,17 +112,17 @@ fn passed(rt: HostRuntime) -> Result<(), Fail> {
     let _ = hear_all(
         &rt,
         &[
-            (b"U,1,1,a", Passed),
-            (b"SUBOK,9,1,1", Passed),
-            (b"SUBOK,9999,1,12", Passed),
-            (b"UNSUB,9", Passed),
-            (b"U,9,1,%zz", Passed),
-            (b"SUBOK,2,1,1", Taken),
-            (b"UNSUB,2", Taken),
-            (b"U,2,1,a", Passed),
-            (b"SUBOK,2,1,1", Passed),
-            (b"UNSUB,2", Passed),
-            (b"EOS,9,1", Taken),
+            (b"U,1,1,a", Ok(Passed)),
+            (b"SUBOK,9,1,1", Ok(Passed)),
+            (b"SUBOK,9999,1,12", Ok(Passed)),
+            (b"UNSUB,9", Ok(Passed)),
+            (b"U,9,1,%zz", Ok(Passed)),
+            (b"SUBOK,2,1,1", Ok(Taken)),
+            (b"UNSUB,2", Ok(Taken)),
+            (b"U,2,1,a", Ok(Passed)),
+            (b"SUBOK,2,1,1", Ok(Passed)),
+            (b"UNSUB,2", Ok(Passed)),
+            (b"EOS,9,1", Ok(Taken)),
         ],
     )?;
     Ok(())
@@ -140,45 +133,45 @@ fn refused(rt: HostRuntime) -> Result<(), Fail> {
     let listener = hear_all(
         &rt,
         &[
-            (b"", No(5, 0)),
-            (b"XYZ,1", No(5, 0)),
-            (b"PROBES", No(5, 0)),
-            (b"probe", No(5, 0)),
-            (b"SYNC,01", No(4, 5)),
-            (b"SYNC,-1", No(4, 5)),
-            (b"SYNC,", No(4, 5)),
-            (b"SYNC,1000000000", No(4, 5)),
-            (b"LOOP,+1", No(4, 5)),
-            (b"UNSUB,0", No(4, 6)),
-            (b"UNSUB,10000", No(4, 6)),
-            (b"EOS,1,2", No(4, 6)),
-            (b"SUBOK,1,2,1", No(4, 8)),
-            (b"ERROR,-0,x", No(4, 6)),
-            (b"ERROR,1000000,x", No(4, 6)),
-            (b"END,-1000000,x", No(4, 4)),
-            (b"REQERR,%,x,y", No(3, 7)),
-            (b"REQERR,7,x,%", No(4, 9)),
-            (b"CONS,%4", No(3, 5)),
-            (b"CLIENTIP,%3g", No(3, 9)),
-            (b"CONF,1,a,b%", No(3, 10)),
-            (b"CONOK,a,1,01,b", No(4, 10)),
-            (b"SUBOK,1,1", No(6, 9)),
-            (b"SYNC", No(6, 4)),
-            (b"PROBE,", No(6, 6)),
-            (b"CONOK,%,1,2", No(6, 11)),
-            (b"SUBOK,1,1,1,1", No(4, 10)),
-            (b"SUBOK,1,1,3", Taken),
-            (b"U,1,1", No(6, 5)),
-            (b"U,1,1,a|b", No(7, 6)),
-            (b"U,1,1,a|b|c|d", No(7, 6)),
-            (b"U,1,1,a|b|c|^zz", No(7, 6)),
-            (b"U,1,1,^2|^2", No(7, 6)),
-            (b"U,1,1,^13", No(4, 6)),
-            (b"U,1,1,a|^0|b", No(4, 8)),
-            (b"U,1,1,a|^02|b", No(4, 8)),
-            (b"U,1,1,^", No(4, 6)),
-            (b"U,1,1,ab|%zz|c", No(3, 9)),
-            (b"U,1,1,a|b|cd%2", No(3, 12)),
+            (b"", Err((5, 0))),
+            (b"XYZ,1", Err((5, 0))),
+            (b"PROBES", Err((5, 0))),
+            (b"probe", Err((5, 0))),
+            (b"SYNC,01", Err((4, 5))),
+            (b"SYNC,-1", Err((4, 5))),
+            (b"SYNC,", Err((4, 5))),
+            (b"SYNC,1000000000", Err((4, 5))),
+            (b"LOOP,+1", Err((4, 5))),
+            (b"UNSUB,0", Err((4, 6))),
+            (b"UNSUB,10000", Err((4, 6))),
+            (b"EOS,1,2", Err((4, 6))),
+            (b"SUBOK,1,2,1", Err((4, 8))),
+            (b"ERROR,-0,x", Err((4, 6))),
+            (b"ERROR,1000000,x", Err((4, 6))),
+            (b"END,-1000000,x", Err((4, 4))),
+            (b"REQERR,%,x,y", Err((3, 7))),
+            (b"REQERR,7,x,%", Err((4, 9))),
+            (b"CONS,%4", Err((3, 5))),
+            (b"CLIENTIP,%3g", Err((3, 9))),
+            (b"CONF,1,a,b%", Err((3, 10))),
+            (b"CONOK,a,1,01,b", Err((4, 10))),
+            (b"SUBOK,1,1", Err((6, 9))),
+            (b"SYNC", Err((6, 4))),
+            (b"PROBE,", Err((6, 6))),
+            (b"CONOK,%,1,2", Err((6, 11))),
+            (b"SUBOK,1,1,1,1", Err((4, 10))),
+            (b"SUBOK,1,1,3", Ok(Taken)),
+            (b"U,1,1", Err((6, 5))),
+            (b"U,1,1,a|b", Err((7, 6))),
+            (b"U,1,1,a|b|c|d", Err((7, 6))),
+            (b"U,1,1,a|b|c|^zz", Err((7, 6))),
+            (b"U,1,1,^2|^2", Err((7, 6))),
+            (b"U,1,1,^13", Err((4, 6))),
+            (b"U,1,1,a|^0|b", Err((4, 8))),
+            (b"U,1,1,a|^02|b", Err((4, 8))),
+            (b"U,1,1,^", Err((4, 6))),
+            (b"U,1,1,ab|%zz|c", Err((3, 9))),
+            (b"U,1,1,a|b|cd%2", Err((3, 12))),
         ],
     )?;
     listener.check_row(&rt, 0, 3, b"#|#|#")
@@ -189,37 +182,40 @@ fn edges(rt: HostRuntime) -> Result<(), Fail> {
     let listener = hear_all(
         &rt,
         &[
-            (b"SUBOK,4,1,0", No(4, 10)),
-            (b"SUBOK,4,1,12", Taken),
-            (b"SUBOK,4,1,13", No(4, 10)),
-            (b"U,4,1,^12", Taken),
-            (b"U,4,1,^11", No(7, 6)),
-            (b"U,4,1,^12|", No(7, 6)),
-            (b"U,4,1,|||||||||||", Taken),
-            (b"U,4,1,||||||||||||", No(7, 6)),
-            (b"SUBOK,8,1,1", Taken),
-            (b"U,8,1,aaaaaaaaaaaaaaaaaaaaaaaaaaaaaaaa", Taken),
-            (b"U,8,1,aaaaaaaaaaaaaaaaaaaaaaaaaaaaaaaaa", No(8, 6)),
+            (b"SUBOK,4,1,0", Err((4, 10))),
+            (b"SUBOK,4,1,12", Ok(Taken)),
+            (b"SUBOK,4,1,13", Err((4, 10))),
+            (b"U,4,1,^12", Ok(Taken)),
+            (b"U,4,1,^11", Err((7, 6))),
+            (b"U,4,1,^12|", Err((7, 6))),
+            (b"U,4,1,|||||||||||", Ok(Taken)),
+            (b"U,4,1,||||||||||||", Err((7, 6))),
+            (b"SUBOK,8,1,1", Ok(Taken)),
+            (b"U,8,1,aaaaaaaaaaaaaaaaaaaaaaaaaaaaaaaa", Ok(Taken)),
+            (b"U,8,1,aaaaaaaaaaaaaaaaaaaaaaaaaaaaaaaaa", Err((8, 6))),
             (
                 b"U,8,1,%2C%2C%2C%2C%2C%2C%2C%2C%2C%2C%2C%2C%2C%2C%2C%2C%2C%2C%2C%2C%2C%2C%2C%2C%2C%2C%2C%2C%2C%2C%2C%2C",
-                Taken,
+                Ok(Taken),
             ),
             (
                 b"U,8,1,%2c%2c%2c%2c%2c%2c%2c%2c%2c%2c%2c%2c%2c%2c%2c%2c%2c%2c%2c%2c%2c%2c%2c%2c%2c%2c%2c%2c%2c%2c%2c%2ca",
-                No(8, 6),
+                Err((8, 6)),
             ),
-            (b"U,4,1,^4|zzzzzzzzzzzzzzzzzzzzzzzzzzzzzzzzz|^7", No(8, 9)),
-            (b"SUBOK,7,1,1", Taken),
-            (b"U,7,1,#", Taken),
-            (b"U,7,1,$", Taken),
-            (b"U,7,1,##", Taken),
-            (b"U,7,1,a#$^,", Taken),
-            (b"SYNC,999999999", Taken),
-            (b"UNSUB,1", Taken),
-            (b"SUBOK,9999,1,1", Passed),
-            (b"UNSUB,9999", Passed),
-            (b"ERROR,-999999,", Taken),
-            (b"END,999999,%00", Taken),
+            (
+                b"U,4,1,^4|zzzzzzzzzzzzzzzzzzzzzzzzzzzzzzzzz|^7",
+                Err((8, 9)),
+            ),
+            (b"SUBOK,7,1,1", Ok(Taken)),
+            (b"U,7,1,#", Ok(Taken)),
+            (b"U,7,1,$", Ok(Taken)),
+            (b"U,7,1,##", Ok(Taken)),
+            (b"U,7,1,a#$^,", Ok(Taken)),
+            (b"SYNC,999999999", Ok(Taken)),
+            (b"UNSUB,1", Ok(Taken)),
+            (b"SUBOK,9999,1,1", Ok(Passed)),
+            (b"UNSUB,9999", Ok(Passed)),
+            (b"ERROR,-999999,", Ok(Taken)),
+            (b"END,999999,%00", Ok(Taken)),
         ],
     )?;
     listener.check_row(&rt, 3, 12, b"#|#|#|#|#|#|#|#|#|#|#|#")?;
@@ -230,10 +226,10 @@ fn edges(rt: HostRuntime) -> Result<(), Fail> {
 fn long_lines(rt: HostRuntime) -> Result<(), Fail> {
     let mut listener = Listener::new();
     let mut line = [b'a'; LINE_LIMIT + 1];
-    assert_eq!(rt; listener.hear(&line[..LINE_LIMIT]), No(5, 0));
-    assert_eq!(rt; listener.hear(&line), No(16, 0));
+    assert_eq!(rt; listener.hear(&line[..LINE_LIMIT]), Err((5, 0)));
+    assert_eq!(rt; listener.hear(&line), Err((16, 0)));
     line[..9].copy_from_slice(b"SERVNAME,");
-    assert_eq!(rt; listener.hear(&line[..LINE_LIMIT]), Taken);
-    assert_eq!(rt; listener.hear(&line), No(16, 0));
+    assert_eq!(rt; listener.hear(&line[..LINE_LIMIT]), Ok(Taken));
+    assert_eq!(rt; listener.hear(&line), Err((16, 0)));
     Ok(())
 }

@@ -6,10 +6,7 @@ use std::test::*;
 type Words = (u32, u32, u8);
 
 fn words_of(text: &[u8]) -> Option<Words> {
-    match <LogicRecord as Value>::read(text) {
-        Some(LogicRecord { a, b, width }) => Some((a, b, width)),
-        None => None,
-    }
+    <LogicRecord as Value>::read(text).map(|raw| (raw.a, raw.b, raw.width))
 }
 
 // The record of a case is written as this text, with zeros behind it.

@@ -14,4 +14,6 @@ mod notified;
 #[cfg(test)]
 mod requested;
 #[cfg(test)]
+mod streamed;
+#[cfg(test)]
 mod written;

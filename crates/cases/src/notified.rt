@@ -187,39 +187,37 @@ fn lines(rt: HostRuntime) -> Result<(), Fail> {
     Ok(())
 }
 
-// The number of the refusal, or 0.
-fn fault_of(message: Message<'_>) -> u8 {
+// The number of the refusal, if there is one.
+fn fault_of(message: Message<'_>) -> Option<u8> {
     let mut out = [b'?'; LINE_LIMIT];
-    match write_line(&mut out, 0, message) {
-        Ok(_) => 0,
-        Err(refusal) => refusal.fault.number(),
-    }
+    let written = write_line(&mut out, 0, message);
+    written.err().map(|refusal| u8::from(refusal.fault))
 }
 
 #[test]
 fn limits(rt: HostRuntime) -> Result<(), Fail> {
-    let table: [(Message<'_>, u8); 19] = [
-        (Message::Sync(999_999_999), 0),
-        (Message::Sync(1_000_000_000), 4),
-        (Message::Loop(1_000_000_000), 4),
-        (Message::Unsub(0), 4),
-        (Message::Unsub(9999), 0),
-        (Message::Unsub(10_000), 4),
-        (Message::Conerr(1_000_000, b""), 4),
-        (Message::End(-1_000_000, b""), 4),
-        (Message::Error(999_999, b""), 0),
-        (Message::Error(-999_999, b""), 0),
-        (Message::Eos { id: 0 }, 4),
-        (Message::Subok { id: 1, fields: 0 }, 4),
-        (Message::Subok { id: 1, fields: 12 }, 0),
-        (Message::Subok { id: 1, fields: 13 }, 4),
-        (Message::Subok { id: 0, fields: 1 }, 4),
+    let table: [(Message<'_>, Option<u8>); 19] = [
+        (Message::Sync(999_999_999), None),
+        (Message::Sync(1_000_000_000), Some(4)),
+        (Message::Loop(1_000_000_000), Some(4)),
+        (Message::Unsub(0), Some(4)),
+        (Message::Unsub(9999), None),
+        (Message::Unsub(10_000), Some(4)),
+        (Message::Conerr(1_000_000, b""), Some(4)),
+        (Message::End(-1_000_000, b""), Some(4)),
+        (Message::Error(999_999, b""), None),
+        (Message::Error(-999_999, b""), None),
+        (Message::Eos { id: 0 }, Some(4)),
+        (Message::Subok { id: 1, fields: 0 }, Some(4)),
+        (Message::Subok { id: 1, fields: 12 }, None),
+        (Message::Subok { id: 1, fields: 13 }, Some(4)),
+        (Message::Subok { id: 0, fields: 1 }, Some(4)),
         (
             Message::Ov {
                 id: 1,
                 lost: 1_000_000_000,
             },
-            4,
+            Some(4),
         ),
         (
             Message::Conf {
@@ -227,7 +225,7 @@ fn limits(rt: HostRuntime) -> Result<(), Fail> {
                 frequency: b"",
                 filter: b"",
             },
-            4,
+            Some(4),
         ),
         (
             Message::Reqerr {
@@ -235,7 +233,7 @@ fn limits(rt: HostRuntime) -> Result<(), Fail> {
                 code: -1_000_000,
                 message: b"",
             },
-            4,
+            Some(4),
         ),
         (
             Message::Conok {
@@ -244,7 +242,7 @@ fn limits(rt: HostRuntime) -> Result<(), Fail> {
                 keepalive: 1_000_000_000,
                 link: b"",
             },
-            4,
+            Some(4),
         ),
     ];
     for (i, (message, number)) in table.iter().enumerate() {
@@ -256,11 +254,11 @@ fn limits(rt: HostRuntime) -> Result<(), Fail> {
 #[test]
 fn lengths(rt: HostRuntime) -> Result<(), Fail> {
     let plain = [b'a'; LINE_LIMIT - 8];
-    assert_eq!(rt; fault_of(Message::Servname(&plain[1..])), 0);
-    assert_eq!(rt; fault_of(Message::Servname(&plain)), 16);
+    assert_eq!(rt; fault_of(Message::Servname(&plain[1..])), None);
+    assert_eq!(rt; fault_of(Message::Servname(&plain)), Some(16));
     let commas = [b','; 390];
-    assert_eq!(rt; fault_of(Message::Cons(&commas[1..])), 0);
-    assert_eq!(rt; fault_of(Message::Cons(&commas)), 16);
+    assert_eq!(rt; fault_of(Message::Cons(&commas[1..])), None);
+    assert_eq!(rt; fault_of(Message::Cons(&commas)), Some(16));
     // numbers are looked at first
     let message = Message::Conok {
         session: &plain,
@@ -268,25 +266,23 @@ fn lengths(rt: HostRuntime) -> Result<(), Fail> {
         keepalive: 0,
         link: b"",
     };
-    assert_eq!(rt; fault_of(message), 4);
+    assert_eq!(rt; fault_of(message), Some(4));
     Ok(())
 }
 
 #[test]
 fn places(rt: HostRuntime) -> Result<(), Fail> {
-    let table: [(usize, usize, &[u8]); 5] = [
-        (0, 5, b"PROBE???"),
-        (2, 7, b"??PROBE?"),
-        (3, 8, b"???PROBE"),
-        (4, 0, b"????????"),
-        (9, 0, b"????????"),
+    let table: [(usize, Result<usize, u8>, &[u8]); 5] = [
+        (0, Ok(5), b"PROBE???"),
+        (2, Ok(7), b"??PROBE?"),
+        (3, Ok(8), b"???PROBE"),
+        (4, Err(16), b"????????"),
+        (9, Err(16), b"????????"),
     ];
     for (at, end, bytes) in table.iter() {
         let mut out = [b'?'; 8];
-        match write_line(&mut out, *at, Message::Probe) {
-            Ok(place) => assert_eq!(rt; place, *end),
-            Err(refusal) => assert_eq!(rt; (refusal.fault.number(), *end), (16, 0)),
-        }
+        let written = write_line(&mut out, *at, Message::Probe);
+        assert_eq!(rt; written.map_err(|refusal| u8::from(refusal.fault)), *end);
         assert!(rt; out.as_slice() == *bytes, "place {at}");
     }
     Ok(())
@@ -304,10 +300,8 @@ const LONGEST: [Change<TextRecord>; FIELD_LIMIT] = [Change {
 // The end of an update of that row, or the number of the refusal.
 fn update(out: &mut [u8], id: u32, changes: usize, fields: usize) -> Result<usize, u8> {
     let delta = LONGEST;
-    match write_update(out, 0, id, &delta[..changes.min(FIELD_LIMIT)], fields) {
-        Ok(end) => Ok(end),
-        Err(refusal) => Err(refusal.fault.number()),
-    }
+    let written = write_update(out, 0, id, &delta[..changes.min(FIELD_LIMIT)], fields);
+    written.map_err(|refusal| u8::from(refusal.fault))
 }
 
 #[test]

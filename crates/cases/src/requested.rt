@@ -1,28 +1,30 @@
 // Requests, as they are read in the session with the number 1.
-use Answer::{Add, Bind, Create, Delete, No, Rebind};
+use Asked::{Add, Bind, Create, Delete, Rebind};
 use requests::{REQUEST_LIMIT, Request, read_request};
 use std::process::Abort;
 use std::test::*;
 
-// A refusal has its fault's number and its place; an operation on a subscription has its ID.
+// An operation on a subscription has its ID.
 #[derive(Clone, Copy, PartialEq, Debug)]
-enum Answer {
+enum Asked {
     Create,
     Bind,
     Add(u32),
     Delete(u32),
     Rebind,
-    No(u8, usize),
 }
+
+// A refusal has its fault's number and its place.
+type Answer = Result<Asked, (u8, usize)>;
 
 fn read(text: &[u8]) -> Answer {
     match read_request(text, 1) {
-        Ok(Request::Create { .. }) => Create,
-        Ok(Request::Bind) => Bind,
-        Ok(Request::Add { subscription, .. }) => Add(subscription),
-        Ok(Request::Delete { subscription, .. }) => Delete(subscription),
-        Ok(Request::ForceRebind { .. }) => Rebind,
-        Err(refusal) => No(refusal.fault.number(), refusal.place),
+        Ok(Request::Create { .. }) => Ok(Create),
+        Ok(Request::Bind) => Ok(Bind),
+        Ok(Request::Add { subscription, .. }) => Ok(Add(subscription)),
+        Ok(Request::Delete { subscription, .. }) => Ok(Delete(subscription)),
+        Ok(Request::ForceRebind { .. }) => Ok(Rebind),
+        Err(refusal) => Err((u8::from(refusal.fault), refusal.place)),
     }
 }
 
@@ -39,27 +41,30 @@ fn accepted(rt: HostRuntime) -> Result<(), Fail> {
     read_all(
         &rt,
         &[
-            (b"create_session\r\nLS_cid=a", Create),
+            (b"create_session\r\nLS_cid=a", Ok(Create)),
             (
                 b"create_session\r\nLS_password=%26&LS_cid=&LS_user=u",
-                Create,
+                Ok(Create),
             ),
-            (b"bind_session\r\nLS_session=S1", Bind),
-            (b"bind_session\r\nLS_session=%531", Bind),
+            (b"bind_session\r\nLS_session=S1", Ok(Bind)),
+            (b"bind_session\r\nLS_session=%531", Ok(Bind)),
             (
                 b"control\r\nLS_reqId=7&LS_op=add&LS_subId=1&LS_group=t1&LS_schema=all&LS_mode=MERGE&LS_snapshot=true",
-                Add(1),
+                Ok(Add(1)),
             ),
             (
                 b"control\r\nLS_snapshot=true&LS_mode=MERGE&LS_schema=all&LS_group=t1&LS_subId=9999&LS_op=%61dd&LS_reqId=abcDEF12",
-                Add(9999),
+                Ok(Add(9999)),
             ),
             (
                 b"control\r\nLS_reqId=7&LS_op=add&LS_subId=1&LS_group=t18446744073709551617&LS_schema=all&LS_mode=MERGE&LS_snapshot=true",
-                Add(1),
+                Ok(Add(1)),
             ),
-            (b"control\r\nLS_reqId=7&LS_op=delete&LS_subId=3", Delete(3)),
-            (b"control\r\nLS_op=force_rebind&LS_reqId=%37", Rebind),
+            (
+                b"control\r\nLS_reqId=7&LS_op=delete&LS_subId=3",
+                Ok(Delete(3)),
+            ),
+            (b"control\r\nLS_op=force_rebind&LS_reqId=%37", Ok(Rebind)),
         ],
     )
 }
@@ -70,29 +75,29 @@ fn shapes(rt: HostRuntime) -> Result<(), Fail> {
     read_all(
         &rt,
         &[
-            (b"control", No(2, 7)),
-            (b"control\n\rLS_reqId=7", No(2, 19)),
-            (b"", No(2, 0)),
-            (b"heartbeat\r\n", No(5, 0)),
+            (b"control", Err((2, 7))),
+            (b"control\n\rLS_reqId=7", Err((2, 19))),
+            (b"", Err((2, 0))),
+            (b"heartbeat\r\n", Err((5, 0))),
             (
                 b"Control\r\nLS_reqId=7&LS_op=add&LS_subId=1&LS_group=t1&LS_schema=all&LS_mode=MERGE&LS_snapshot=true",
-                No(5, 0),
+                Err((5, 0)),
             ),
-            (b"control\r\n", No(2, 9)),
-            (b"control\r\nLS_reqId", No(2, 9)),
-            (b"control\r\nLS_reqId=7&&LS_op=add", No(2, 20)),
-            (b"control\r\nLS_reqId=7&", No(2, 20)),
-            (b"control\r\nLS_reqId=7&LS_reqId=7", No(6, 20)),
-            (b"control\r\nLS_cid=7", No(6, 9)),
-            (b"control\r\nls_reqid=7", No(6, 9)),
-            (b"control\r\nLS_reqId=%4", No(3, 18)),
-            (b"control\r\nLS_reqId=7%zz", No(3, 19)),
-            (b"control\r\nLS_reqId=+%", No(3, 19)),
-            (b"control\r\nLS_reqId=a b", No(8, 18)),
-            (b"control\r\nLS_reqId=a=b", No(8, 18)),
+            (b"control\r\n", Err((2, 9))),
+            (b"control\r\nLS_reqId", Err((2, 9))),
+            (b"control\r\nLS_reqId=7&&LS_op=add", Err((2, 20))),
+            (b"control\r\nLS_reqId=7&", Err((2, 20))),
+            (b"control\r\nLS_reqId=7&LS_reqId=7", Err((6, 20))),
+            (b"control\r\nLS_cid=7", Err((6, 9))),
+            (b"control\r\nls_reqid=7", Err((6, 9))),
+            (b"control\r\nLS_reqId=%4", Err((3, 18))),
+            (b"control\r\nLS_reqId=7%zz", Err((3, 19))),
+            (b"control\r\nLS_reqId=+%", Err((3, 19))),
+            (b"control\r\nLS_reqId=a b", Err((8, 18))),
+            (b"control\r\nLS_reqId=a=b", Err((8, 18))),
             (
                 b"create_session\r\nLS_cid=aaaaaaaaaaaaaaaaaaaaaaaaaaaaaaaaaaaaaaaaaaaaaaaaaaaaaaaaaaaaaaaaa",
-                No(16, 0),
+                Err((16, 0)),
             ),
         ],
     )
@@ -104,28 +109,28 @@ fn parameters(rt: HostRuntime) -> Result<(), Fail> {
     read_all(
         &rt,
         &[
-            (b"create_session\r\nLS_user=u", No(6, 25)),
-            (b"control\r\nLS_reqId=7", No(6, 19)),
-            (b"control\r\nLS_op=nothing", No(6, 22)),
-            (b"control\r\nLS_reqId=7&LS_op=ADD", No(8, 26)),
-            (b"control\r\nLS_reqId=7&LS_op=delete", No(6, 32)),
+            (b"create_session\r\nLS_user=u", Err((6, 25))),
+            (b"control\r\nLS_reqId=7", Err((6, 19))),
+            (b"control\r\nLS_op=nothing", Err((6, 22))),
+            (b"control\r\nLS_reqId=7&LS_op=ADD", Err((8, 26))),
+            (b"control\r\nLS_reqId=7&LS_op=delete", Err((6, 32))),
             (
                 b"control\r\nLS_reqId=7&LS_op=add&LS_subId=1&LS_group=t1&LS_schema=all&LS_snapshot=true",
-                No(6, 83),
+                Err((6, 83)),
             ),
             (
                 b"control\r\nLS_schema=all&LS_reqId=7&LS_group=t1&LS_op=delete&LS_subId=1",
-                No(6, 9),
+                Err((6, 9)),
             ),
             (
                 b"control\r\nLS_reqId=7&LS_op=force_rebind&LS_subId=1",
-                No(6, 39),
+                Err((6, 39)),
             ),
-            (b"bind_session\r\nLS_session=S2", No(8, 25)),
-            (b"bind_session\r\nLS_session=S01", No(8, 25)),
+            (b"bind_session\r\nLS_session=S2", Err((8, 25))),
+            (b"bind_session\r\nLS_session=S01", Err((8, 25))),
             (
                 b"control\r\nLS_reqId=&LS_op=add&LS_subId=1&LS_group=t1&LS_schema=all&LS_mode=MERGE&LS_snapshot=true",
-                No(8, 18),
+                Err((8, 18)),
             ),
         ],
     )
@@ -139,55 +144,55 @@ fn values(rt: HostRuntime) -> Result<(), Fail> {
         &[
             (
                 b"control\r\nLS_reqId=123456789&LS_op=add&LS_subId=1&LS_group=t1&LS_schema=all&LS_mode=MERGE&LS_snapshot=true",
-                No(8, 18),
+                Err((8, 18)),
             ),
             (
                 b"control\r\nLS_reqId=a-b&LS_op=add&LS_subId=1&LS_group=t1&LS_schema=all&LS_mode=MERGE&LS_snapshot=true",
-                No(8, 18),
+                Err((8, 18)),
             ),
             (
                 b"control\r\nLS_reqId=7&LS_op=add&LS_subId=0&LS_group=t1&LS_schema=all&LS_mode=MERGE&LS_snapshot=true",
-                No(4, 39),
+                Err((4, 39)),
             ),
             (
                 b"control\r\nLS_reqId=7&LS_op=add&LS_subId=10000&LS_group=t1&LS_schema=all&LS_mode=MERGE&LS_snapshot=true",
-                No(4, 39),
+                Err((4, 39)),
             ),
             (
                 b"control\r\nLS_reqId=7&LS_op=add&LS_subId=01&LS_group=t1&LS_schema=all&LS_mode=MERGE&LS_snapshot=true",
-                No(4, 39),
+                Err((4, 39)),
             ),
             (
                 b"control\r\nLS_reqId=7&LS_op=add&LS_subId=1&LS_group=t0&LS_schema=all&LS_mode=MERGE&LS_snapshot=true",
-                No(8, 50),
+                Err((8, 50)),
             ),
             (
                 b"control\r\nLS_reqId=7&LS_op=add&LS_subId=1&LS_group=t01&LS_schema=all&LS_mode=MERGE&LS_snapshot=true",
-                No(8, 50),
+                Err((8, 50)),
             ),
             (
                 b"control\r\nLS_reqId=7&LS_op=add&LS_subId=1&LS_group=1&LS_schema=all&LS_mode=MERGE&LS_snapshot=true",
-                No(8, 50),
+                Err((8, 50)),
             ),
             (
                 b"control\r\nLS_reqId=7&LS_op=add&LS_subId=1&LS_group=t1&LS_schema=some&LS_mode=MERGE&LS_snapshot=true",
-                No(8, 63),
+                Err((8, 63)),
             ),
             (
                 b"control\r\nLS_reqId=7&LS_op=add&LS_subId=1&LS_group=t1&LS_schema=all&LS_mode=RAW&LS_snapshot=true",
-                No(8, 75),
+                Err((8, 75)),
             ),
             (
                 b"control\r\nLS_reqId=7&LS_op=add&LS_subId=1&LS_group=t1&LS_schema=all&LS_mode=MERGE&LS_snapshot=false",
-                No(8, 93),
+                Err((8, 93)),
             ),
             (
                 b"control\r\nLS_reqId=-&LS_op=add&LS_subId=x&LS_group=t1&LS_schema=all&LS_mode=MERGE&LS_snapshot=true",
-                No(8, 18),
+                Err((8, 18)),
             ),
             (
                 b"control\r\nLS_reqId=7&LS_op=add&LS_subId=x&LS_group=tx&LS_schema=all&LS_mode=MERGE&LS_snapshot=true",
-                No(4, 39),
+                Err((4, 39)),
             ),
         ],
     )
@@ -197,12 +202,10 @@ fn values(rt: HostRuntime) -> Result<(), Fail> {
 #[test]
 fn lengths(rt: HostRuntime) -> Result<(), Fail> {
     let mut text = [b'a'; REQUEST_LIMIT + 1];
-    for (to, from) in text.iter_mut().zip(b"create_session\r\nLS_cid=") {
-        *to = *from;
-    }
-    assert_eq!(rt; read(&text), No(16, 0));
-    assert_eq!(rt; read(&text[0..REQUEST_LIMIT]), No(16, 0));
-    assert_eq!(rt; read(&text[0..23 + 64]), Create);
-    assert_eq!(rt; read(&text[0..23 + 65]), No(16, 0));
+    text[..23].copy_from_slice(b"create_session\r\nLS_cid=");
+    assert_eq!(rt; read(&text), Err((16, 0)));
+    assert_eq!(rt; read(&text[0..REQUEST_LIMIT]), Err((16, 0)));
+    assert_eq!(rt; read(&text[0..23 + 64]), Ok(Create));
+    assert_eq!(rt; read(&text[0..23 + 65]), Err((16, 0)));
     Ok(())
 }

@@ -1,5 +1,4 @@
 pub mod Placed
-pub mod Adding
 pub mod Holding
 pub mod Composing
 pub mod ReadingBack

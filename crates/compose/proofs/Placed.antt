@@ -1,11 +1,9 @@
 -- Texts that were put in their places, one before the other.
-use Rattle.std.proofs.Common.{◌≡◌, ℕ, ◌+◌, ◌-◌, ◌≤◌, Bool, true, false, cond, List, [], ◌∷◌, ◌++◌, length, take, drop, replicate, Ok, Err, Result, sym, refl, ap, ◌∙◌, subst, append_assoc, zero-add, arith}
-use Rattle.std.proofs.lemmas.List.{length-append, length-replicate, length-take-le, take-append-le, take-take, drop_at, drop-replicate}
+use Rattle.std.proofs.Common.{◌≡◌, ℕ, ◌+◌, ◌≤◌, Bool, true, false, cond, List, [], ◌∷◌, ◌++◌, length, take, drop, Ok, Err, sym, refl, ap, ◌∙◌, subst, append_assoc, arith}
+use Rattle.std.proofs.lemmas.List.{length-append, length-take-le, take-append-le, take-take, drop_at}
 use Rattle.std.proofs.lemmas.Bool.{leb-true, cond-true}
-use Rattle.row.specs.declared.fault.Refusal.{Refusal}
 use Rattle.tlcp.specs.Written.{placed, fits, end_or, placed_or, no_room}
 use Rattle.tlcp.proofs.Placing.{fitting, placed-then}
-use Rattle.compose.specs.Written.{padded_or}
 
 -- t fitted behind the first `at` of xs: it ends before r, and makes ys of xs
 pub record Puts (at : ℕ) (t xs : List ℕ) (r : ℕ) (ys : List ℕ) : Type 0 where
@@ -20,12 +18,6 @@ module _ (at : ℕ) (t xs : List ℕ) (r : ℕ) (ys : List ℕ) where
       by : (b : Bool) → fits at t xs ≡ b → Ok r ≡ cond b (Ok (at + length t)) (Err no_room) → ys ≡ cond b (placed at t xs) xs → Puts at t xs r ys
       by true fit answer bytes = record { room = leb-true _ _ fit; end = cc; bytes = bytes }
       by false fit answer bytes = absurd (let z : ◌≡◌ {A = ℕ} 0 1 = cc in omega arith)
-
-  -- what fits was put
-  pub fit-puts : {a : Result ℕ Refusal} → at + length t ≤ length xs → r ≡ at + length t → a ≡ end_or at t xs → ys ≡ placed_or at t xs → (a ≡ Ok r) × Puts at t xs r ys
-  fit-puts room end answer bytes =
-      let fit = fitting at t xs room in
-      (answer ∙ cond-true _ _ _ fit ∙ ap Ok (sym end), record { room = room; end = end; bytes = bytes ∙ cond-true _ _ _ fit })
 
   pub answered : Puts at t xs r ys → Ok r ≡ end_or at t xs
   answered p = ap Ok p.end ∙ sym (cond-true _ _ _ (fitting at t xs p.room))
@@ -73,20 +65,3 @@ pair_puts at mid joint word u xs {b} {w} {ys₁} {ys₂} {ys₃} {ys₄} {end} {
     let whole : (front ++ (61 ∷ [])) ++ u ≡ joint ++ (word ++ (61 ∷ u)) =
     append_assoc front (61 ∷ []) u ∙ append_assoc b w (61 ∷ u) ∙ (λ i. joint-is i ++ (word-is i ++ (61 ∷ u))) in
     subst (λ t. Puts at t xs end ys₄) whole (puts-before at mid (front ++ (61 ∷ [])) u xs ys₁ ys₄ last end size value all)
-
--- a word and CR LF, in front of zeros
-pub head_puts : (word xs : List ℕ) {w zeros ys zs : List ℕ} {end : ℕ} {a : Result ℕ Refusal} → w ≡ word → zeros ≡ replicate (length xs) 0 → length w + 2 ≤ length xs → length ys ≡ length xs → Puts 0 w zeros end ys → a ≡ end_or end (13 ∷ 10 ∷ []) ys → zs ≡ placed_or end (13 ∷ 10 ∷ []) ys → (a ≡ end_or 0 (word ++ (13 ∷ 10 ∷ [])) xs) × (zs ≡ padded_or (word ++ (13 ∷ 10 ∷ [])) xs)
-head_puts word xs {w} {zeros} {ys} {zs} {end} word-is zeros-are room same first answer bytes =
-    let crlf = 13 ∷ 10 ∷ [] in
-    let n = length xs in
-    let size : length zeros ≡ n = ap length zeros-are ∙ length-replicate n 0 in
-    let last = fit-puts end crlf ys (end + 2) zs (omega (arith, first.end)) (omega arith) answer bytes in
-    let all = puts_then 0 w crlf zeros ys zs end (end + 2) (same ∙ sym size) first last.1 in
-    let head : w ++ crlf ≡ word ++ crlf = ap (λ l. l ++ crlf) word-is in
-    let rest : drop (0 + length (w ++ crlf)) zeros ≡ replicate (n - length (word ++ crlf)) 0 =
-    ap (λ k. drop k zeros) (zero-add (length (w ++ crlf))) ∙ (λ i. drop (length (head i)) (zeros-are i)) ∙ drop-replicate (length (word ++ crlf)) n 0 in
-    let fit : fits 0 (word ++ crlf) xs ≡ true = fitting 0 (word ++ crlf) xs (omega (arith, all.room, ap length head)) in
-    let end_is : end + 2 ≡ 0 + length (word ++ crlf) = all.end ∙ ap (λ t. 0 + length t) head in (
-      last.0 ∙ ap Ok end_is ∙ sym (cond-true _ _ _ fit),
-      all.bytes ∙ (λ i. head i ++ rest i) ∙ sym (cond-true _ _ _ fit),
-    )

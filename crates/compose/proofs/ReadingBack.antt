@@ -7,7 +7,7 @@ use Rattle.std.proofs.lemmas.Bool.Decides.{nat_tests}
 use Rattle.tlcp.specs.Bytes.{is_plain, is_reserved}
 use Rattle.tlcp.specs.Escapes.{encoded_by, hex_digit, spelled}
 use Rattle.tlcp.specs.Dividing.{each_behind, joined_by}
-use Rattle.tlcp.proofs.Encoded.{decodes-by, length-by}
+use Rattle.tlcp.proofs.Unescaped.{decodes-by, length-by}
 use Rattle.requests.specs.Asked.{Given, Sound, Apart, ReadsAsked, found, spelling}
 use Rattle.requests.specs.Limits.{request_limit, value_limit}
 use Rattle.requests.specs.Names.{index_of, is_in, name_word, parameter_word, takes}

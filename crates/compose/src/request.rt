@@ -1,22 +1,21 @@
 // A request that is being written into lent bytes.
 ghost use Rattle.std.specs.Prelude.{◌≡◌, List, [], length, replicate, if◌then◌else◌, OnOk};
-ghost use Rattle.compose.specs.Written.{Pair, pair};
+ghost use Rattle.compose.specs.Written as written;
+ghost use Rattle.compose.specs.Written.{pair};
 ghost use Rattle.compose.specs.Drafts.{add_answer, add_to, begin_answer, begin_in, draft_of, unbegun};
 ghost use Rattle.compose.specs.Held.{Holds, Stands, pairs_after};
 ghost use Rattle.compose.specs.ReadBack.{ReadsBack};
 
-use crate::part::{NO_ROOM, has, put_head, put_pair};
-use requests::{Name, PARAMETER_COUNT, Parameter, VALUE_LIMIT};
+use crate::pair::Pair;
+use crate::part::{put_head, put_pair};
+use requests::{Name, PARAMETER_COUNT, Parameter, VALUE_LIMIT, is_in};
 use row::{Fault, Refusal};
-
-// A parameter that was added before, or is not one of the name's.
-const UNFIT: Refusal = Refusal {
-    fault: Fault::Parts,
-    place: 0,
-};
+use tlcp::Worded;
 
 // Holds the lent bytes until the request is finished. A password may be among them by then, so a request
 // that is left before leaves only zeros.
+// The flag and the marks stay: zeros are owed on every way out but that of `finish`, and marks by parameter index take
+// fixed memory.
 pub struct RequestWriter<'a> {
     out: &'a mut [u8],
     len: usize,
@@ -81,19 +80,19 @@ impl<'a> RequestWriter<'a> {
     pub fn add(&mut self, parameter: Parameter, value: &[u8]) -> Result<(), Refusal>
         ensures answer { result ≡ add_answer (draft_of self.old) (pair parameter value.now) }
         ensures draft { draft_of self.new ≡ add_to (draft_of self.old) (pair parameter value.now) }
-        ensures pairs { (xs : List Pair) → Holds (draft_of self.old) xs → Holds (draft_of self.new) (pairs_after result xs (pair parameter value.now)) }
+        ensures pairs { (xs : List written.Pair) → Holds (draft_of self.old) xs → Holds (draft_of self.new) (pairs_after result xs (pair parameter value.now)) }
         ensures lent { self.new.out.ghost_name ≡ self.old.out.ghost_name }
     {
         let i = parameter.index();
-        if self.given[i] || !has(self.name, parameter) {
-            return Err(UNFIT);
+        if self.given[i] || !is_in(parameter, self.name.parameters()) {
+            return Err(Fault::Parts.at(0));
         }
         if value.len() > VALUE_LIMIT {
-            return Err(NO_ROOM);
+            return Err(Fault::Length.at(0));
         }
         let at = self.len;
         let first = at == self.name.word().len() + 2;
-        self.len = put_pair(self.out, at, first, parameter, value)?;
+        self.len = put_pair(self.out, at, first, Pair::new(parameter, value))?;
         self.given[i] = true;
         Ok(())
     }
@@ -102,9 +101,10 @@ impl<'a> RequestWriter<'a> {
     pub fn finish(self) -> Finished
         ensures len { result.len ≡ self.entry.len }
         ensures bytes { self.exit.0.now ≡ self.entry.out.now }
-        ensures pairs { (xs : List Pair) → Holds (draft_of self.entry) xs → Stands self.entry.name xs self.exit.0.now result.len }
+        ensures pairs { (xs : List written.Pair) → Holds (draft_of self.entry) xs → Stands self.entry.name xs self.exit.0.now result.len }
         ensures reads { ReadsBack }
     {
+        // kept: of `mut self`, with only the flag set, the proof did not close
         let RequestWriter {
             out,
             len,

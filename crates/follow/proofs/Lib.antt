@@ -1,3 +1,1 @@
-pub mod Pushed
-pub mod Fed
 pub mod RowLists

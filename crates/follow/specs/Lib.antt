@@ -1,3 +1,2 @@
 pub mod Answers
 pub mod Feeding
-pub mod Followers

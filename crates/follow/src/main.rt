@@ -1,36 +1,30 @@
 // Hears a TLCP stream on standard input, says what came of each line, and prints the open rows at the end.
 #![tactic(auto)]
 
+ghost use Rattle.std.specs.Prelude.{◌+◌, ◌^◌, ◌<◌, length, IfSome, OnOk};
+ghost use Rattle.std.specs.Io.KnownBytes.{Appends};
+ghost use Rattle.follow.specs.Feeding.{printed};
+
 mod follower;
 mod print;
 mod rows;
 
-use follower::Stream;
-use std::io::{Read, Write};
+use follower::Follower;
+use std::io::{self, Read, Write};
+use streams::answer_all;
 
-const BLOCK: usize = 65536;
-
-// What has been answered is written before the next read, which may wait for input.
-fn run(rt: &HostRuntime) -> anyhow::Result<()> {
-    let mut input = rt.stdin();
-    let mut output = rt.stdout();
-    let mut stream = Stream::new(rt.alloc());
-    let mut text = Vec::new(rt.alloc());
-    let mut block = [0u8; BLOCK];
-    for _ in 0..u64::MAX {
-        let n = input.read(&mut block)?;
-        if n == 0 {
-            break;
-        }
-        stream.feed(&block[0..n], &mut text)?;
-        output.write_all(&text)?;
-        text.clear();
-    }
-    stream.finish(&mut text)?;
-    output.write_all(&text)?;
-    Ok(())
+// Answers the lines of an input, and prints the open rows behind its end.
+pub fn follow<R: Read, W: Write>(
+    rt: &impl AllocGlobal,
+    input: &mut R,
+    output: &mut W,
+) -> io::Result<()>
+    ensures { OnOk result (IfSome (R.remaining input.old) (λ s. length s + 1 < 2 ^ 64 → Appends (W.contents output.old) (W.contents output.new) (printed s))) }
+{
+    answer_all(rt, Follower::new(), input, output)
 }
 
 fn main(rt: HostRuntime) -> anyhow::Result<()> {
-    run(&rt)
+    follow(&rt, &mut rt.stdin(), &mut rt.stdout())?;
+    Ok(())
 }

@@ -4,14 +4,13 @@ ghost use Rattle.row.specs.Limits.{field_limit};
 ghost use Rattle.viewer.specs.Limits.{cell_limit};
 ghost use Rattle.follow.specs.Answers.{list_text, row_text, rows_text};
 
-use crate::print::push_number;
 use row::{Cell, Change, FIELD_LIMIT, Mark, TextRecord, Value, whole_row};
-use std::alloc::AllocError;
-use tlcp::{LIST_LIMIT, write_list};
+use std::io::{self, Write};
+use tlcp::{Bounded, LIST_LIMIT};
 use viewer::{Entry, Viewer};
 
 // Appends the values of a row's first fields.
-fn push_list(out: &mut Vec<u8>, row: &[Cell<TextRecord>], fields: usize) -> Result<(), AllocError>
+fn push_list(out: &mut Vec<u8>, row: &[Cell<TextRecord>], fields: usize) -> io::Result<()>
     requires { length row.now ≡ field_limit }
     ensures { OnOk result (out.new.items ≡ out.old.items ++ list_text row.now fields) }
 {
@@ -20,25 +19,23 @@ fn push_list(out: &mut Vec<u8>, row: &[Cell<TextRecord>], fields: usize) -> Resu
         raw: <TextRecord as Value>::rest(),
     };
     let mut delta = [same; FIELD_LIMIT];
-    let mut list = [0u8; LIST_LIMIT];
     let _ = whole_row(row, &mut delta);
-    if let Ok(len) = write_list(&mut list, 0, &delta, fields) {
-        out.extend_from_slice(&list[0..len])?;
-    }
+    let mut list = Bounded::<LIST_LIMIT>::new();
+    // of no fields, or of more than a row has, nothing is printed
+    let _ = list.put_list(&delta, fields);
+    out.extend_from_slice(list.text())?;
     Ok(())
 }
 
 // Appends an open entry's row as a whole U line.
-fn push_row(out: &mut Vec<u8>, entry: Entry, row: &[Cell<TextRecord>]) -> Result<(), AllocError>
+fn push_row(out: &mut Vec<u8>, entry: Entry, row: &[Cell<TextRecord>]) -> io::Result<()>
     requires { length row.now ≡ field_limit }
     ensures { OnOk result (out.new.items ≡ out.old.items ++ row_text entry row.now) }
 {
-    if entry.open {
-        out.extend_from_slice(b"U,")?;
-        push_number(out, entry.id as u64)?;
-        out.extend_from_slice(b",1,")?;
-        push_list(out, row, entry.fields)?;
-        out.extend_from_slice(b"\n")?;
+    if let Some(fields) = entry.fields {
+        write!(out, "U,{},1,", entry.id)?;
+        push_list(out, row, fields)?;
+        writeln!(out)?;
     }
     Ok(())
 }
@@ -48,13 +45,12 @@ pub(crate) fn push_rows(
     out: &mut Vec<u8>,
     viewer: &Viewer,
     cells: &[Cell<TextRecord>],
-) -> Result<(), AllocError>
+) -> io::Result<()>
     requires { length cells.now ≡ cell_limit }
     ensures { OnOk result (out.new.items ≡ out.old.items ++ rows_text viewer.now.entries cells.now) }
 {
-    for (i, entry) in viewer.entries().iter().enumerate() {
-        let at = FIELD_LIMIT * i;
-        push_row(out, *entry, &cells[at..at + FIELD_LIMIT])?;
+    for (entry, row) in viewer.entries().iter().zip(cells.chunks_exact(FIELD_LIMIT)) {
+        push_row(out, *entry, row)?;
     }
     Ok(())
 }

@@ -1,10 +1,10 @@
 -- Bytes that stand in no line: those that are escaped in texts and are no sign of a line's own.
-use Rattle.std.proofs.Common.{◌≡◌, ℕ, zero, suc, ◌+◌, ◌^◌, ◌<◌, ◌≤◌, Bool, true, false, not, eqb, leb, List, [], ◌∷◌, length, drop, replicate, ℤ, pos, negsuc, nat_abs, decimal, refl, ap, ◌∙◌, arith}
+use Rattle.std.proofs.Common.{◌≡◌, ℕ, zero, suc, ◌+◌, ◌^◌, ◌<◌, ◌≤◌, Bool, true, false, not, eqb, leb, List, [], ◌∷◌, length, drop, replicate, ℤ, nat_abs, decimal, refl, arith, rules}
 use Rattle.std.specs.Fmt.{signed_decimal}
 use Rattle.std.specs.List.{AllByRecursion}
 use Rattle.std.proofs.lemmas.Fmt.{decimal_by_steps}
 use Rattle.std.proofs.ByRecursion.{All-append}
-use Rattle.std.proofs.lemmas.Bool.{and_parts, or_parts, or_from, both_ways, not-true, ne_eqb, cond_both}
+use Rattle.std.proofs.lemmas.Bool.{and_parts, or_parts, or_from, not-true, cond_both}
 use Rattle.std.proofs.lemmas.Bool.Decides.{nat_tests}
 use Rattle.row.specs.Limits.{field_limit}
 use Rattle.row.specs.Rows.{Change, same, becomes, null, value}
@@ -27,7 +27,7 @@ pub record Apart (c : ℕ) : Type 0 where
 
 module _ (c : ℕ) (apart : Apart c) where
   other : (b : ℕ) → is_escaped b ≡ false → eqb b c ≡ false
-  other b is = ne_eqb b c (λ e. both_ways (is_escaped b) is (ap is_escaped e ∙ apart.escaped))
+  other b is = grind (arith, nat_tests, apart.escaped)
 
   -- one more byte before a text
   has_one : (b : ℕ) (s : List ℕ) → is_escaped b ≡ false → has c s ≡ false → has c (b ∷ s) ≡ false
@@ -46,8 +46,7 @@ module _ (c : ℕ) (apart : Apart c) where
       digit n small = has_one (48 + n) [] (grind (arith, nat_tests)) refl
 
   pub has-signed : (z : ℤ) → nat_abs z < 2 ^ 64 → has c (signed_decimal z) ≡ false
-  has-signed (pos n) small = has-decimal n small
-  has-signed (negsuc n) small = has_one 45 (decimal (suc n)) refl (has-decimal (suc n) small)
+  has-signed z small = search (rules, has-decimal, has_one)
 
   pub has-text : (t : List ℕ) → Bytes t → has c (encoded_by is_escaped t) ≡ false
   has-text t bytes = has-by c apart.digit apart.percent is_escaped other t bytes
@@ -66,8 +65,7 @@ module _ (c : ℕ) (apart : Apart c) where
       empties (suc k) = (refl, empties k)
 
   has_value : (t : List ℕ) → Bytes t → has c (text_value t) ≡ false
-  has_value [] bytes = has_one 36 [] refl refl
-  has_value (b ∷ t) bytes = has-encode c apart.digit apart.percent other (b ∷ t) bytes
+  has_value t bytes = search (rules, has_one, has-encode c apart.digit apart.percent other)
 
   free-written : (d : List Change) (n : ℕ) → n + length d ≤ field_limit → AllByRecursion BytesIn d → Free (written_values n d)
   free-written [] n few bytes = free-run n (omega arith)
@@ -83,7 +81,7 @@ module _ (c : ℕ) (apart : Apart c) where
 
   has-behind : (s : List ℕ) → has c s ≡ false → has c (drop 1 s) ≡ false
   has-behind [] h = refl
-  has-behind (b ∷ s) h = (or_parts (eqb b c) (has c s) h).1
+  has-behind (b ∷ s) h = search (rules, or_parts)
 
   pub has-list : (d : List Change) → length d ≤ field_limit → AllByRecursion BytesIn d → has c (written_list d) ≡ false
   has-list d few bytes = has-behind (each_piped (written_values 0 d)) (has-piped (written_values 0 d) (free-written d 0 (omega arith) bytes))

@@ -1,20 +1,21 @@
 -- Written lines, read back.
-use Rattle.std.proofs.Common.{◌≡◌, ℕ, ◌+◌, ◌^◌, ◌<◌, true, false, eqb, leb, List, [], ◌∷◌, ◌++◌, length, ℤ, pos, negsuc, sym, refl, ap, ◌∙◌, subst, arith}
+use Rattle.std.proofs.Common.{◌≡◌, ℕ, ◌+◌, ◌^◌, ◌<◌, true, false, eqb, List, [], ◌∷◌, ◌++◌, length, ℤ, sym, refl, ap, ◌∙◌, subst, rules}
 use Rattle.std.specs.List.{AllByRecursion}
+use Rattle.std.proofs.ByRecursion.{All-weaker}
 use Rattle.std.proofs.lemmas.List.{append-nil}
-use Rattle.std.proofs.lemmas.Bool.{and_parts, leb-true, false≢true, or_from}
+use Rattle.std.proofs.lemmas.Bool.{and_parts, false≢true, or_from}
 use Rattle.row.specs.Texts.{every}
 use Rattle.tlcp.specs.Bytes.{is_escaped}
 use Rattle.tlcp.specs.Numbers.{CodeWithin}
 use Rattle.tlcp.specs.Dividing.{has}
-use Rattle.tlcp.proofs.Encoded.{decodes-by, has-append}
+use Rattle.tlcp.proofs.Encoded.{has-append}
+use Rattle.tlcp.proofs.Unescaped.{decodes-by}
 use Rattle.tlcp.proofs.Unescaped.{plain-percent, reads-escapes}
 use Rattle.tlcp.specs.Lines as lines
 use Rattle.tlcp.specs.Lines.{Sort, sorts, word, piece, piece_of, has_comma, Kept, Laid, none, last, more, Says}
 use Rattle.tlcp.specs.declared.tag.Tag.{Tag}
-use Rattle.tlcp.specs.declared.tag.Tag.TheVariants.{U, Probe, Sync, Loop, Cons, Servname, Clientip, Reqok, Unsub, Conerr, End, Error, Eos, Subok, Ov, Conf, Reqerr, Conok}
 use Rattle.tlcp.proofs.Saying.{reads-said}
-use Rattle.notify.specs.Given.{Given, number, code, text, list, Saying, spell, argued, is_within, all_within, within, line_text}
+use Rattle.notify.specs.Given.{Given, code, Saying, spell, argued, is_within, all_within, within, line_text}
 use Rattle.notify.specs.Back.{argument, arguments, laid, Sound, Meant, ReadBack, LineUnbroken}
 use Rattle.notify.proofs.Apart.{Apart, plain, has-plain, has-decimal, has-signed, has-text, has-list}
 
@@ -27,85 +28,31 @@ Bounded lines.list = Unit {0}
 
 -- what holds of each tag
 known : (t : Tag) → (every plain (word t) ≡ true) × AllByRecursion Bounded (sorts t)
-known U = (refl, omega arith)
-known Probe = (refl, omega arith)
-known Sync = (refl, omega arith)
-known Loop = (refl, omega arith)
-known Cons = (refl, omega arith)
-known Servname = (refl, omega arith)
-known Clientip = (refl, omega arith)
-known Reqok = (refl, omega arith)
-known Unsub = (refl, omega arith)
-known Conerr = (refl, omega arith)
-known End = (refl, omega arith)
-known Error = (refl, omega arith)
-known Eos = (refl, omega arith)
-known Subok = (refl, omega arith)
-known Ov = (refl, omega arith)
-known Conf = (refl, omega arith)
-known Reqerr = (refl, omega arith)
-known Conok = (refl, omega arith)
+known t = (search rules, search rules)
 
 code-within : (z : ℤ) → is_within lines.code (code z) ≡ true → CodeWithin z
-code-within (pos n) is = leb-true _ _ is
-code-within (negsuc n) is = leb-true _ _ is
+code-within z is = search rules
 
 -- what is within the limits of a sort is kept by it
 kept : (k : Sort) (g : Given) (at : ℕ) → is_within k g ≡ true → Sound g → Kept k (argument g at)
-kept (lines.number low high) (number n) at is sound = let h = and_parts (leb low n) (leb n high) is in (refl, leb-true _ _ h.0, leb-true _ _ h.1)
-kept (lines.number low high) (code z) at is sound = false≢true is
-kept (lines.number low high) (text t) at is sound = false≢true is
-kept (lines.number low high) (list d) at is sound = false≢true is
-kept lines.code (number n) at is sound = false≢true is
-kept lines.code (code z) at is sound = (refl, code-within z is)
-kept lines.code (text t) at is sound = false≢true is
-kept lines.code (list d) at is sound = false≢true is
-kept lines.text (number n) at is sound = false≢true is
-kept lines.text (code z) at is sound = false≢true is
-kept lines.text (text t) at is sound = (t, decodes-by is_escaped plain-percent t sound)
-kept lines.text (list d) at is sound = false≢true is
-kept lines.list (number n) at is sound = false≢true is
-kept lines.list (code z) at is sound = false≢true is
-kept lines.list (text t) at is sound = false≢true is
-kept lines.list (list d) at is sound = tt
+kept k g at is sound = search (rules, code-within, decodes-by is_escaped plain-percent, false≢true)
 
 piece_is : (g : Given) (at : ℕ) → piece_of (argument g at) ≡ piece (spell g) at
-piece_is (number n) at = refl
-piece_is (code z) at = refl
-piece_is (text t) at = refl
-piece_is (list d) at = refl
+piece_is g at = search rules
 
 meant : (g : Given) → Sound g → Meant g
-meant (number n) sound = tt
-meant (code z) sound = tt
-meant (text t) sound = decodes-by is_escaped plain-percent t sound
-meant (list d) sound = tt
+meant g sound = search (rules, decodes-by is_escaped plain-percent)
 
 -- a byte c that stands in no argument
 module _ (c : ℕ) (apart : Apart c) where
   has-given : (k : Sort) (g : Given) → Bounded k → is_within k g ≡ true → Sound g → has c (spell g) ≡ false
-  has-given (lines.number low high) (number n) bound is sound = has-decimal c apart n (omega (arith, leb-true _ _ (and_parts (leb low n) (leb n high) is).1))
-  has-given lines.code (number n) bound is sound = absurd (false≢true is)
-  has-given lines.text (number n) bound is sound = absurd (false≢true is)
-  has-given lines.list (number n) bound is sound = absurd (false≢true is)
-  has-given (lines.number low high) (code z) bound is sound = absurd (false≢true is)
-  has-given lines.code (code z) bound is sound = has-signed c apart z (omega (arith, leb-true _ _ is))
-  has-given lines.text (code z) bound is sound = absurd (false≢true is)
-  has-given lines.list (code z) bound is sound = absurd (false≢true is)
-  has-given (lines.number low high) (text t) bound is sound = has-text c apart t sound
-  has-given lines.code (text t) bound is sound = has-text c apart t sound
-  has-given lines.text (text t) bound is sound = has-text c apart t sound
-  has-given lines.list (text t) bound is sound = has-text c apart t sound
-  has-given (lines.number low high) (list d) bound is sound = has-list c apart d sound.0 sound.1
-  has-given lines.code (list d) bound is sound = has-list c apart d sound.0 sound.1
-  has-given lines.text (list d) bound is sound = has-list c apart d sound.0 sound.1
-  has-given lines.list (list d) bound is sound = has-list c apart d sound.0 sound.1
+  has-given k g bound is sound = search (rules, has-decimal c apart, has-signed c apart, has-text c apart, has-list c apart, false≢true)
 
   -- if it is no comma, it stands in no line
   module _ (other : eqb 44 c ≡ false) where
     has-argued : (ks : List Sort) (gs : List Given) → AllByRecursion Bounded ks → all_within ks gs ≡ true → AllByRecursion Sound gs → has c (argued gs) ≡ false
     has-argued ks [] bound is sound = refl
-    has-argued [] (g ∷ gs) bound is sound = absurd (false≢true is)
+    has-argued [] (g ∷ gs) bound is sound = cc
     has-argued (k ∷ ks) (g ∷ gs) bound is sound =
         let two = and_parts (is_within k g) (all_within ks gs) is in
         or_from (eqb 44 c) _ other
@@ -151,10 +98,6 @@ laid-arguments (k ∷ j ∷ ks) (g ∷ h ∷ gs) at bound is sound =
     (has-given 44 comma k g bound.0 two.0 sound.0)
     (laid-arguments (j ∷ ks) (h ∷ gs) next bound.1 two.1 sound.1)
 
-all-meant : (gs : List Given) → AllByRecursion Sound gs → AllByRecursion Meant gs
-all-meant [] sound = tt
-all-meant (g ∷ gs) sound = (meant g sound.0, all-meant gs sound.1)
-
 pub read_back : (s : Saying) → AllByRecursion Sound s.given → ReadBack s
 read_back s sound is =
     let says : Says (line_text s) (laid s) =
@@ -165,4 +108,4 @@ read_back s sound is =
       name = refl;
       args = laid-arguments (sorts s.tag) s.given (length (word s.tag)) (known s.tag).1 is.numbers sound;
     } in
-    record { line = (reads-said reads-escapes (line_text s) (laid s)).1 says; texts = all-meant s.given sound }
+    record { line = (reads-said reads-escapes (line_text s) (laid s)).1 says; texts = All-weaker Sound Meant meant s.given sound }

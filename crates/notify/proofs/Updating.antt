@@ -1,46 +1,37 @@
 -- Updates: their lines are short, and are read back.
-use Rattle.std.proofs.Common.{◌≡◌, ℕ, ◌≤◌, true, eqb, leb, List, [], ◌∷◌, map, length, take, Ok, Err, Result, sym, refl, ap, ◌∙◌, arith}
+use Rattle.std.proofs.Common.{◌≡◌, ℕ, ◌≤◌, true, eqb, List, [], ◌∷◌, map, length, take, Ok, Err, Result, sym, ap, ◌∙◌, arith, rules}
 use Rattle.std.specs.List.{AllByRecursion}
 use Rattle.std.proofs.lemmas.Fmt.{length-decimal-le}
 use Rattle.std.proofs.lemmas.List.{length-append, length-map, length-take-le}
-use Rattle.std.proofs.lemmas.Bool.{and_parts, and_from, leb-true, le-leb, eq-eqb, cond-true}
+use Rattle.std.proofs.lemmas.Bool.{le-leb, eq-eqb, cond-true}
+use Rattle.std.proofs.lemmas.Bool.Decides.{nat_tests}
 use Rattle.row.specs.Kinds.{Kind, Lawful}
 use Rattle.row.specs.Limits.{field_limit}
 use Rattle.row.specs.Records.{change_of, mark_of}
 use Rattle.row.specs.declared.change.Change.{Change}
 use Rattle.row.specs.declared.change.Mark.{Mark}
-use Rattle.row.specs.declared.change.Mark.TheVariants.{Same, Null, Value}
 use Rattle.row.specs.declared.fault.Refusal.{Refusal}
 use Rattle.tlcp.specs.Written.{end_or, no_room, placed_or}
-use Rattle.tlcp.specs.Lists.{written_list}
-use Rattle.tlcp.specs.Written.{changes_of, covers, list_answer, list_placed}
+use Rattle.tlcp.specs.Written.{changes_of}
 use Rattle.tlcp.proofs.Deltas as lists
 use Rattle.tlcp.specs.Limits.{id_limit}
 use Rattle.tlcp.specs.Limits.{line_limit}
 use Rattle.tlcp.specs.Lines as lines
 use Rattle.tlcp.specs.Lines.{word}
 use Rattle.tlcp.specs.declared.tag.Tag.TheVariants.{U}
-use Rattle.notify.specs.Given.{number, is_within, line_text}
+use Rattle.notify.specs.Given.{number, argued, is_within, line_text}
 use Rattle.notify.specs.Back.{Accepted, BytesIn, Sound, Update, UpdateBack, UpdateShort, UpdateUnbroken}
 use Rattle.notify.specs.Composed.{composed}
-use Rattle.notify.specs.Written.{is_short, update_of, update_answer, update_placed}
+use Rattle.notify.specs.Written.{update_of, update_answer, update_placed}
 use Rattle.notify.proofs.Backing.{read_back, unbroken}
 use Rattle.notify.proofs.Composing.{composed-is, word-short}
-
-module _ {R : Type 0} (k : Kind R) (delta : List (Change R)) (fields : ℕ) (whole : length delta ≡ field_limit) (covered : covers fields ≡ true) where
-  -- the list of a whole delta is written, if it fits
-  pub list-answer : (at : ℕ) (xs : List ℕ) (r : Result ℕ Refusal) → r ≡ list_answer k delta fields at xs → r ≡ end_or at (written_list (changes_of k delta fields)) xs
-  list-answer at xs r e = e ∙ cond-true _ _ _ (eq-eqb _ field_limit whole) ∙ cond-true _ _ _ covered
-
-  pub list-placed : (at : ℕ) (xs ys : List ℕ) → ys ≡ list_placed k delta fields at xs → ys ≡ placed_or at (written_list (changes_of k delta fields)) xs
-  list-placed at xs ys e = e ∙ cond-true _ _ _ (eq-eqb _ field_limit whole) ∙ cond-true _ _ _ covered
 
 -- what the tests of a writer show
 pub update-from : {R : Type 0} (k : Kind R) (id : ℕ) (delta : List (Change R)) (fields : ℕ) → length delta ≡ field_limit → true ≡ is_within lines.id (number id) → (fields ≡ 0 → ⊥) → fields ≤ field_limit → Update k id delta fields
 update-from k id delta fields whole is some few = record {
   whole = whole;
-  id-within = and_from _ _ (sym is) refl;
-  fields_within = and_from _ _ (le-leb 1 fields (omega arith)) (le-leb fields field_limit few);
+  id-within = search rules;
+  fields_within = grind (arith, nat_tests);
 }
 
 module _ {R : Type 0} (k : Kind R) (law : Lawful k) where
@@ -49,19 +40,17 @@ module _ {R : Type 0} (k : Kind R) (law : Lawful k) where
   bytes-in (c ∷ cs) = (here c.mark c.raw, bytes-in cs)
     where
       here : (m : Mark) (r : R) → BytesIn (mark_of k m r)
-      here Same r = tt
-      here Null r = tt
-      here Value r = law.bytes (k.text r) (law.text-allowed r)
+      here m r = search (rules, law.bytes, law.text-allowed)
 
   module _ (id : ℕ) (delta : List (Change R)) (fields : ℕ) where
     some : Update k id delta fields → 1 ≤ fields
-    some h = leb-true 1 fields (and_parts (leb 1 fields) (leb fields field_limit) h.fields_within).0
+    some h = grind (arith, nat_tests, h.fields_within)
 
     few : Update k id delta fields → fields ≤ field_limit
-    few h = leb-true fields field_limit (and_parts (leb 1 fields) (leb fields field_limit) h.fields_within).1
+    few h = grind (arith, nat_tests, h.fields_within)
 
     id-few : Update k id delta fields → id ≤ id_limit
-    id-few h = leb-true id id_limit (and_parts (leb 1 id) (leb id id_limit) (and_parts _ true h.id-within).0).1
+    id-few h = grind (arith, nat_tests, h.id-within)
 
     sound : Update k id delta fields → AllByRecursion Sound (update_of k id delta fields).given
     sound h =
@@ -90,7 +79,7 @@ module _ {R : Type 0} (k : Kind R) (law : Lawful k) where
       composed-whole : composed (word U) (update_of k id delta fields).given ≡ Ok (line_text (update_of k id delta fields))
       composed-whole =
           let s = update_of k id delta fields in
-          composed-is (word U) s.given (word-short U) ∙ cond-true (is_short s) (Ok (line_text s)) (Err no_room) (le-leb (length (line_text s)) line_limit (update-short h))
+          composed-is (word U) s.given (word-short U) ∙ cond-true _ (Ok (line_text s)) (Err no_room) (le-leb _ line_limit (omega (arith, update-short h, length-append (word U) (argued s.given))))
 
       pub update-unrefused : (e : Refusal) → Err e ≡ composed (word U) (update_of k id delta fields).given → ⊥
       update-unrefused e is = let z : ◌≡◌ {A = ℕ} 0 1 = cc (is ∙ composed-whole) in omega arith

@@ -1,10 +1,8 @@
 // The emulator's lines, written.
 #![tactic(auto)]
 
-mod compose;
 mod draft;
 mod message;
-mod shape;
 mod write;
 
 pub use message::Message;

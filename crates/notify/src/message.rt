@@ -1,13 +1,11 @@
 // What a line is to say, and whether its numbers are within their limits.
 ghost use Rattle.std.specs.Prelude.{◌≡◌};
-ghost use Rattle.tlcp.specs.Lines.{code, count, field_count, id};
-ghost use Rattle.notify.specs.Given as given;
-ghost use Rattle.notify.specs.Given.{is_within, saying_of, within};
+ghost use Rattle.notify.specs.Given.{saying_of, within};
 
-use row::FIELD_LIMIT;
-use tlcp::{CODE_LIMIT, COUNT_LIMIT, ID_LIMIT};
+use tlcp::{CODE_LIMIT, Limits, Tag};
 
 // A message of every tag but U. Texts are given as the bytes that they mean; item and item count are always 1.
+// Not the enum of what was read with other types in it: that has U, the items, and texts as parts of a line.
 #[derive(Clone, Copy)]
 pub enum Message<'a> {
     Probe,
@@ -50,31 +48,32 @@ pub enum Message<'a> {
     },
 }
 
-pub(crate) fn is_id(n: u32) -> bool
-    ensures { result ≡ is_within id (given.number n) }
-{
-    1 <= n && n <= ID_LIMIT
-}
-
-fn is_count(n: u32) -> bool
-    ensures { result ≡ is_within count (given.number n) }
-{
-    n <= COUNT_LIMIT
-}
-
-fn is_field_count(n: u32) -> bool
-    ensures { result ≡ is_within field_count (given.number n) }
-{
-    1 <= n && n as usize <= FIELD_LIMIT
-}
-
-fn is_code(n: i32) -> bool
-    ensures { result ≡ is_within code (given.code n) }
-{
-    n.unsigned_abs() <= CODE_LIMIT
-}
-
 impl Message<'_> {
+    // Its tag.
+    pub(crate) fn tag(self) -> Tag
+        ensures { result ≡ (saying_of self.entry).tag }
+    {
+        match self {
+            Message::Probe => Tag::Probe,
+            Message::Sync(_) => Tag::Sync,
+            Message::Loop(_) => Tag::Loop,
+            Message::Cons(_) => Tag::Cons,
+            Message::Servname(_) => Tag::Servname,
+            Message::Clientip(_) => Tag::Clientip,
+            Message::Reqok(_) => Tag::Reqok,
+            Message::Unsub(_) => Tag::Unsub,
+            Message::Conerr(..) => Tag::Conerr,
+            Message::End(..) => Tag::End,
+            Message::Error(..) => Tag::Error,
+            Message::Eos { .. } => Tag::Eos,
+            Message::Subok { .. } => Tag::Subok,
+            Message::Ov { .. } => Tag::Ov,
+            Message::Conf { .. } => Tag::Conf,
+            Message::Reqerr { .. } => Tag::Reqerr,
+            Message::Conok { .. } => Tag::Conok,
+        }
+    }
+
     // Whether its numbers and codes are within their limits.
     pub(crate) fn is_within(self) -> bool
         ensures { result ≡ within (saying_of self.entry) }
@@ -85,19 +84,21 @@ impl Message<'_> {
             | Message::Servname(_)
             | Message::Clientip(_)
             | Message::Reqok(_) => true,
-            Message::Sync(n) | Message::Loop(n) => is_count(n),
-            Message::Unsub(id) | Message::Eos { id } | Message::Conf { id, .. } => is_id(id),
-            Message::Conerr(code, _) | Message::End(code, _) | Message::Error(code, _) => {
-                is_code(code)
+            Message::Sync(n) | Message::Loop(n) => Limits::COUNT.hold(n),
+            Message::Unsub(id) | Message::Eos { id } | Message::Conf { id, .. } => {
+                Limits::ID.hold(id)
             }
-            Message::Reqerr { code, .. } => is_code(code),
-            Message::Subok { id, fields } => is_id(id) && is_field_count(fields),
-            Message::Ov { id, lost } => is_id(id) && is_count(lost),
+            Message::Conerr(code, _)
+            | Message::End(code, _)
+            | Message::Error(code, _)
+            | Message::Reqerr { code, .. } => code.unsigned_abs() <= CODE_LIMIT,
+            Message::Subok { id, fields } => Limits::ID.hold(id) && Limits::FIELDS.hold(fields),
+            Message::Ov { id, lost } => Limits::ID.hold(id) && Limits::COUNT.hold(lost),
             Message::Conok {
                 limit,
                 keepalive,
                 ..
-            } => is_count(limit) && is_count(keepalive),
+            } => Limits::COUNT.hold(limit) && Limits::COUNT.hold(keepalive),
         }
     }
 }

@@ -12,53 +12,50 @@ ghost use Rattle.notify.specs.Composed.{composed, held};
 ghost use Rattle.notify.specs.Written.{line_answer, line_placed, update_answer, update_of, update_placed};
 
 use crate::draft::Draft;
-use crate::message::{Message, is_id};
-use crate::shape::{code_and_text, conf, conok, item_and_number, reqerr};
+use crate::message::Message;
 use row::{Change, FIELD_LIMIT, Fault, Refusal, Value};
-use tlcp::UNCOVERED;
-
-// A number is beyond its limits.
-const BEYOND: Refusal = Refusal {
-    fault: Fault::Number,
-    place: 0,
-};
+use tlcp::{Limits, Tag, UNCOVERED};
 
 // The line of a message, composed.
 fn compose(message: Message<'_>) -> Result<Draft, Refusal>
     ensures line { on_ok held result ≡ composed (word (saying_of message.entry).tag) (saying_of message.entry).given }
     ensures bytes { OnOk result (AllByRecursion Sound (saying_of message.entry).given) }
 {
+    let line = Draft::of(message.tag());
     match message {
-        Message::Probe => Ok(Draft::of(b"PROBE")),
-        Message::Sync(n) => Draft::of(b"SYNC").number(n),
-        Message::Loop(n) => Draft::of(b"LOOP").number(n),
-        Message::Cons(text) => Draft::of(b"CONS").text(text),
-        Message::Servname(text) => Draft::of(b"SERVNAME").text(text),
-        Message::Clientip(text) => Draft::of(b"CLIENTIP").text(text),
-        Message::Reqok(text) => Draft::of(b"REQOK").text(text),
-        Message::Unsub(id) => Draft::of(b"UNSUB").number(id),
-        Message::Conerr(code, text) => code_and_text(b"CONERR", code, text),
-        Message::End(code, text) => code_and_text(b"END", code, text),
-        Message::Error(code, text) => code_and_text(b"ERROR", code, text),
-        Message::Eos { id } => Draft::of(b"EOS").number(id)?.number(1),
-        Message::Subok { id, fields } => item_and_number(b"SUBOK", id, fields),
-        Message::Ov { id, lost } => item_and_number(b"OV", id, lost),
+        Message::Probe => Ok(line),
+        Message::Sync(n) | Message::Loop(n) | Message::Unsub(n) => line.number(n),
+        Message::Cons(text)
+        | Message::Servname(text)
+        | Message::Clientip(text)
+        | Message::Reqok(text) => line.text(text),
+        Message::Conerr(code, text) | Message::End(code, text) | Message::Error(code, text) => {
+            line.code(code)?.text(text)
+        }
+        Message::Eos { id } => line.number(id)?.number(1),
+        Message::Subok { id, fields: n } | Message::Ov { id, lost: n } => {
+            line.number(id)?.number(1)?.number(n)
+        }
         Message::Conf {
             id,
             frequency,
             filter,
-        } => conf(id, frequency, filter),
+        } => line.number(id)?.text(frequency)?.text(filter),
         Message::Reqerr {
             request,
             code,
             message,
-        } => reqerr(request, code, message),
+        } => line.text(request)?.code(code)?.text(message),
         Message::Conok {
             session,
             limit,
             keepalive,
             link,
-        } => conok(session, limit, keepalive, link),
+        } => line
+            .text(session)?
+            .number(limit)?
+            .number(keepalive)?
+            .text(link),
     }
 }
 
@@ -69,10 +66,11 @@ pub fn write_line(out: &mut [u8], at: usize, message: Message<'_>) -> Result<usi
     ensures read_back { ReadBack (saying_of message.entry) }
     ensures unbroken { LineUnbroken (saying_of message.entry) }
 {
-    if !message.is_within() {
-        return Err(BEYOND);
+    if message.is_within() {
+        compose(message)?.put(out, at)
+    } else {
+        Err(Fault::Number.at(0))
     }
-    compose(message)?.put(out, at)
 }
 
 // The line of an update.
@@ -81,7 +79,7 @@ fn compose_update<R: Value>(id: u32, delta: &[Change<R>], fields: usize) -> Resu
     requires covered { covers fields ≡ true }
     ensures { on_ok held result ≡ composed (word U) (update_of R.kind id delta.now fields).given }
 {
-    Draft::of(b"U").number(id)?.number(1)?.list(delta, fields)
+    Draft::of(Tag::U).number(id)?.number(1)?.list(delta, fields)
 }
 
 // Writes the line that updates the first fields of a row, without its end, from the place `at` on, if it fits, and answers
@@ -102,8 +100,8 @@ pub fn write_update<R: Value>(
     if delta.len() != FIELD_LIMIT {
         return Err(Refusal::MEMORY);
     }
-    if !is_id(id) {
-        return Err(BEYOND);
+    if !Limits::ID.hold(id) {
+        return Err(Fault::Number.at(0));
     }
     if fields == 0 || fields > FIELD_LIMIT {
         return Err(UNCOVERED);

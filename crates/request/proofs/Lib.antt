@@ -2,4 +2,3 @@ pub mod Spellings
 pub mod Anewed
 pub mod Checks
 pub mod Sames
-pub mod Fed

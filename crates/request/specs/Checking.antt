@@ -1,7 +1,7 @@
 -- What is answered to a line.
-use Rattle.std.specs.Prelude.{ℕ, cond, List, [], ◌∷◌, ◌++◌, length, take, replicate, Some, None, Ok, Err, codes, decimal, Option, Result, nat_le}
+use Rattle.std.specs.Prelude.{ℕ, cond, List, ◌++◌, length, take, replicate, Some, None, Ok, Err, codes, Option, Result, nat_le}
 use Rattle.tlcp.specs.Lines.{and_then}
-use Rattle.row.specs.Faults.{number_of}
+use Rattle.row.specs.Faults.{printed}
 use Rattle.tlcp.specs.Said.{on_ok}
 use Rattle.tlcp.specs.Lists.{refusal}
 use Rattle.row.specs.declared.fault.Fault.TheVariants.{Length, Shape}
@@ -27,8 +27,4 @@ checked session line = cond (nat_le (length line) spelled_limit) (read_spelled s
 
 abbrev pub answer_text : Result (List ℕ) Refusal → List ℕ
 answer_text (Ok t) = codes " ok " ++ spelled t
-answer_text (Err r) = codes " no " ++ (decimal (number_of r.fault) ++ (32 ∷ decimal r.place))
-
--- the answer to the line with the number n
-abbrev pub answer_line : ℕ → ℕ → List ℕ → List ℕ
-answer_line session n line = decimal n ++ (answer_text (checked session line) ++ 10 ∷ [])
+answer_text (Err r) = codes " no " ++ printed r

@@ -1,5 +1,5 @@
 -- Requests on one line: a backslash and what stands behind it for a byte.
-use Rattle.std.specs.Prelude.{◌≡◌, ℕ, ◌+◌, ◌*◌, ◌/◌, ◌%◌, ◌<◌, Bool, cond, ◌&&◌, List, [], ◌∷◌, ◌++◌, Some, None, Option, ◌==◌}
+use Rattle.std.specs.Prelude.{◌≡◌, ℕ, ◌+◌, ◌*◌, ◌/◌, ◌%◌, ◌<◌, cond, ◌&&◌, List, [], ◌∷◌, ◌++◌, Some, None, Option, ◌==◌}
 use Rattle.std.specs.Option.{option_map}
 use Rattle.std.specs.List.{AllByRecursion}
 use Rattle.tlcp.specs.Bytes.{inside, is_hex}
@@ -7,20 +7,20 @@ use Rattle.tlcp.specs.Escapes.{hex_digit, hex_value}
 use Rattle.request.specs.declared.unspell.Behind.{Behind}
 use Rattle.request.specs.declared.unspell.Behind.TheVariants.{Nothing, Backslash, Hex, High}
 use Rattle.request.specs.declared.unspell.Step.{Step}
-use Rattle.request.specs.declared.unspell.Step.TheVariants.{Byte, More, Bad}
+use Rattle.request.specs.declared.unspell.Step.TheVariants.{Byte, More}
 
--- what a byte of a line does behind what has been read of one
-abbrev pub step_of : Behind → ℕ → Step
-step_of Nothing b = cond (b == 92) (More Backslash) (Byte b)
-step_of Backslash b = cond (b == 114) (Byte 13) (cond (b == 110) (Byte 10) (cond (b == 92) (Byte 92) (cond (b == 120) (More Hex) Bad)))
-step_of Hex b = More (High b)
-step_of (High h) b = cond (is_hex h && is_hex b) (Byte (16 * hex_value h + hex_value b)) Bad
+-- what a byte of a line does behind what has been read of one, if it is not out of place
+abbrev pub step_of : Behind → ℕ → Option Step
+step_of Nothing b = cond (b == 92) (Some (More Backslash)) (Some (Byte b))
+step_of Backslash b = cond (b == 114) (Some (Byte 13)) (cond (b == 110) (Some (Byte 10)) (cond (b == 92) (Some (Byte 92)) (cond (b == 120) (Some (More Hex)) None)))
+step_of Hex b = Some (More (High b))
+step_of (High h) b = cond (is_hex h && is_hex b) (Some (Byte (16 * hex_value h + hex_value b))) None
 
 -- what a line stands for behind a step, by what the rest of it stands for
-abbrev pub after : Step → (Behind → Option (List ℕ)) → Option (List ℕ)
-after (Byte b) rest = option_map (λ t. b ∷ t) (rest Nothing)
-after (More behind) rest = rest behind
-after Bad rest = None
+abbrev pub after : Option Step → (Behind → Option (List ℕ)) → Option (List ℕ)
+after (Some (Byte b)) rest = option_map (λ t. b ∷ t) (rest Nothing)
+after (Some (More behind)) rest = rest behind
+after None rest = None
 
 -- a byte that is not yet known is none
 abbrev pub at_end : Behind → Option (List ℕ)

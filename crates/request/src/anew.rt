@@ -6,7 +6,7 @@ ghost use Rattle.requests.specs.Read.{word_text};
 ghost use Rattle.requests.specs.Requests.{add, bind, create, delete, rebind};
 ghost use Rattle.request.specs.Anew.{Anew};
 
-use crate::numbered::Numbered;
+use crate::numbered::numbered;
 use compose::{Pair, compose};
 use requests::{Name, Parameter, Request, Word};
 use row::Refusal;
@@ -23,39 +23,21 @@ fn create_anew(
 ) -> Result<usize, Refusal>
     ensures { Anew session (create (word_text cid) (option_map word_text user) (option_map word_text password)) out.old result out.new }
 {
-    let cid = Pair {
-        parameter: Parameter::Cid,
-        value: cid.text(),
-    };
-    let hidden = Pair {
-        parameter: Parameter::Password,
-        value: REDACTED,
-    };
+    let cid = Pair::new(Parameter::Cid, cid.text());
+    let hidden = Pair::new(Parameter::Password, REDACTED);
+    // kept: a list with parts left out wants a heap, or as an ArrayVec a pair that stands for none
     match (user, password) {
         (None, None) => compose(out, Name::CreateSession, &[cid]),
         (None, Some(_)) => compose(out, Name::CreateSession, &[cid, hidden]),
         (Some(user), None) => compose(
             out,
             Name::CreateSession,
-            &[
-                cid,
-                Pair {
-                    parameter: Parameter::User,
-                    value: user.text(),
-                },
-            ],
+            &[cid, Pair::new(Parameter::User, user.text())],
         ),
         (Some(user), Some(_)) => compose(
             out,
             Name::CreateSession,
-            &[
-                cid,
-                Pair {
-                    parameter: Parameter::User,
-                    value: user.text(),
-                },
-                hidden,
-            ],
+            &[cid, Pair::new(Parameter::User, user.text()), hidden],
         ),
     }
 }
@@ -63,11 +45,8 @@ fn create_anew(
 fn bind_anew(out: &mut [u8], session: u32) -> Result<usize, Refusal>
     ensures { Anew session bind out.old result out.new }
 {
-    let name = Numbered::of(b"S", session);
-    let pairs = [Pair {
-        parameter: Parameter::Session,
-        value: name.text(),
-    }];
+    let name = numbered(b"S", session);
+    let pairs = [Pair::new(Parameter::Session, name.text())];
     compose(out, Name::BindSession, &pairs)
 }
 
@@ -80,36 +59,15 @@ fn add_anew(
 ) -> Result<usize, Refusal>
     ensures { Anew session (add (word_text request) subscription (word_text group)) out.old result out.new }
 {
-    let id = Numbered::of(b"", subscription);
+    let id = numbered(b"", subscription);
     let pairs = [
-        Pair {
-            parameter: Parameter::RequestId,
-            value: request.text(),
-        },
-        Pair {
-            parameter: Parameter::Operation,
-            value: b"add",
-        },
-        Pair {
-            parameter: Parameter::SubscriptionId,
-            value: id.text(),
-        },
-        Pair {
-            parameter: Parameter::Group,
-            value: group.text(),
-        },
-        Pair {
-            parameter: Parameter::Schema,
-            value: b"all",
-        },
-        Pair {
-            parameter: Parameter::Mode,
-            value: b"MERGE",
-        },
-        Pair {
-            parameter: Parameter::Snapshot,
-            value: b"true",
-        },
+        Pair::new(Parameter::RequestId, request.text()),
+        Pair::new(Parameter::Operation, b"add"),
+        Pair::new(Parameter::SubscriptionId, id.text()),
+        Pair::new(Parameter::Group, group.text()),
+        Pair::new(Parameter::Schema, b"all"),
+        Pair::new(Parameter::Mode, b"MERGE"),
+        Pair::new(Parameter::Snapshot, b"true"),
     ];
     compose(out, Name::Control, &pairs)
 }
@@ -122,20 +80,11 @@ fn delete_anew(
 ) -> Result<usize, Refusal>
     ensures { Anew session (delete (word_text request) subscription) out.old result out.new }
 {
-    let id = Numbered::of(b"", subscription);
+    let id = numbered(b"", subscription);
     let pairs = [
-        Pair {
-            parameter: Parameter::RequestId,
-            value: request.text(),
-        },
-        Pair {
-            parameter: Parameter::Operation,
-            value: b"delete",
-        },
-        Pair {
-            parameter: Parameter::SubscriptionId,
-            value: id.text(),
-        },
+        Pair::new(Parameter::RequestId, request.text()),
+        Pair::new(Parameter::Operation, b"delete"),
+        Pair::new(Parameter::SubscriptionId, id.text()),
     ];
     compose(out, Name::Control, &pairs)
 }
@@ -144,14 +93,8 @@ fn rebind_anew(out: &mut [u8], request: Word, session: u32) -> Result<usize, Ref
     ensures { Anew session (rebind (word_text request)) out.old result out.new }
 {
     let pairs = [
-        Pair {
-            parameter: Parameter::RequestId,
-            value: request.text(),
-        },
-        Pair {
-            parameter: Parameter::Operation,
-            value: b"force_rebind",
-        },
+        Pair::new(Parameter::RequestId, request.text()),
+        Pair::new(Parameter::Operation, b"force_rebind"),
     ];
     compose(out, Name::Control, &pairs)
 }

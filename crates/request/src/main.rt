@@ -1,6 +1,10 @@
 // Checks requests, one on each line of standard input, as the emulator would read them.
 #![tactic(auto)]
 
+ghost use Rattle.std.specs.Prelude.{◌+◌, ◌^◌, ◌<◌, length, IfSome, OnOk};
+ghost use Rattle.std.specs.Io.KnownBytes.{Appends};
+ghost use Rattle.request.specs.Feeding.{printed};
+
 mod anew;
 mod answer;
 mod checker;
@@ -9,12 +13,12 @@ mod print;
 mod session;
 mod unspell;
 
+use anyhow::{Context, ensure};
 use checker::Checker;
 use session::session_named;
 use std::env;
-use std::io::{Read, Write};
-
-const BLOCK: usize = 65536;
+use std::io::{self, Read, Write};
+use streams::answer_all;
 
 // What is said of any other arguments.
 const USAGE: &str = "the session's number is 1 to 99999";
@@ -23,42 +27,27 @@ const USAGE: &str = "the session's number is 1 to 99999";
 fn chosen(rt: &HostRuntime) -> anyhow::Result<u32> {
     let mut words = env::args(rt)?;
     let _ = words.next();
-    let session = match words.next() {
-        Some(word) => session_named(&word),
-        None => Some(1),
+    let Some(word) = words.next() else {
+        return Ok(1);
     };
-    match (session, words.next()) {
-        (Some(session), None) => Ok(session),
-        _ => Err(anyhow::anyhow!("{USAGE}")),
-    }
+    ensure!(words.next().is_none(), "{USAGE}");
+    session_named(&word).context(USAGE)
 }
 
-// What has been answered is written before the next read, which may wait for input.
-fn check(rt: &HostRuntime, session: u32) -> anyhow::Result<()> {
-    let mut input = rt.stdin();
-    let mut output = rt.stdout();
-    let mut checker = Checker::new(rt.alloc(), session);
-    let mut answers = Vec::new(rt.alloc());
-    let mut block = [0u8; BLOCK];
-    for _ in 0..u64::MAX {
-        let n = input.read(&mut block)?;
-        if n == 0 {
-            break;
-        }
-        checker.feed(&block[0..n], &mut answers)?;
-        output.write_all(&answers)?;
-        answers.clear();
-    }
-    checker.finish(&mut answers)?;
-    output.write_all(&answers)?;
-    Ok(())
-}
-
-fn run(rt: &HostRuntime) -> anyhow::Result<()> {
-    let session = chosen(rt)?;
-    check(rt, session)
+// Answers the lines of an input as requests for a session.
+pub fn check<R: Read, W: Write>(
+    rt: &impl AllocGlobal,
+    session: u32,
+    input: &mut R,
+    output: &mut W,
+) -> io::Result<()>
+    ensures { OnOk result (IfSome (R.remaining input.old) (λ s. length s + 1 < 2 ^ 64 → Appends (W.contents output.old) (W.contents output.new) (printed session s))) }
+{
+    answer_all(rt, Checker::new(session), input, output)
 }
 
 fn main(rt: HostRuntime) -> anyhow::Result<()> {
-    run(&rt)
+    let session = chosen(&rt)?;
+    check(&rt, session, &mut rt.stdin(), &mut rt.stdout())?;
+    Ok(())
 }

@@ -2,13 +2,16 @@
 ghost use Rattle.std.specs.Prelude.{◌≡◌};
 ghost use Rattle.request.specs.Arguments.{session_named};
 
-use tlcp::read_number;
+use tlcp::{Limits, read_number};
 
-const SESSION_LIMIT: u32 = 99_999;
+const SESSIONS: Limits = Limits {
+    low: 1,
+    high: 99_999,
+};
 
 // The session that a word names.
 pub fn session_named(word: &str) -> Option<u32>
     ensures { result ≡ session_named word.now }
 {
-    read_number(word.as_bytes(), 1, SESSION_LIMIT)
+    read_number(word.as_bytes(), SESSIONS)
 }

@@ -1,8 +1,11 @@
 // A request on one line: `\r`, `\n`, `\\` and `\xHH` stand for bytes.
-ghost use Rattle.std.specs.Prelude.{◌≡◌, ◌≤◌, length, take};
+ghost use Rattle.std.specs.Prelude.{◌≡◌, ◌≤◌, length, Some};
 ghost use Rattle.std.specs.Option.{option_map};
+ghost use Rattle.request.specs.Limits.{spelled_limit};
 ghost use Rattle.request.specs.Spelling.{step_of, unspelled};
 
+use crate::answer::SPELLED_LIMIT;
+use arrayvec::ArrayVec;
 use tlcp::hex_of;
 
 // What has been read of a byte that is not yet known.
@@ -16,67 +19,57 @@ pub enum Behind {
     High(u8),
 }
 
-// What a byte of a line does: with it a byte is known, or more is read of one, or it is out of place.
+// What a byte of a line does: with it a byte is known, or more is read of one.
 #[derive(Clone, Copy)]
 pub enum Step {
     Byte(u8),
     More(Behind),
-    Bad,
 }
 
 // The byte that two hexadecimal digits stand for.
-fn byte_of(h: u8, l: u8) -> Step
+fn byte_of(h: u8, l: u8) -> Option<Step>
     ensures { result ≡ step_of (Behind.High h) l }
 {
-    let Some(high) = hex_of(h) else {
-        return Step::Bad;
-    };
-    let Some(low) = hex_of(l) else {
-        return Step::Bad;
-    };
-    Step::Byte(16 * high + low)
+    Some(Step::Byte(16 * hex_of(h)? + hex_of(l)?))
 }
 
 impl Behind {
-    fn step(self, b: u8) -> Step
+    // Nothing where the byte is out of place.
+    fn step(self, b: u8) -> Option<Step>
         ensures { result ≡ step_of self b }
     {
-        match self {
-            Behind::Nothing if b == b'\\' => Step::More(Behind::Backslash),
-            Behind::Nothing => Step::Byte(b),
-            Behind::Backslash => match b {
-                b'r' => Step::Byte(b'\r'),
-                b'n' => Step::Byte(b'\n'),
-                b'\\' => Step::Byte(b'\\'),
-                b'x' => Step::More(Behind::Hex),
-                _ => Step::Bad,
-            },
-            Behind::Hex => Step::More(Behind::High(b)),
-            Behind::High(h) => byte_of(h, b),
+        match (self, b) {
+            (Behind::Nothing, b'\\') => Some(Step::More(Behind::Backslash)),
+            (Behind::Nothing, _) => Some(Step::Byte(b)),
+            (Behind::Backslash, b'r') => Some(Step::Byte(b'\r')),
+            (Behind::Backslash, b'n') => Some(Step::Byte(b'\n')),
+            (Behind::Backslash, b'\\') => Some(Step::Byte(b'\\')),
+            (Behind::Backslash, b'x') => Some(Step::More(Behind::Hex)),
+            (Behind::Backslash, _) => None,
+            (Behind::Hex, _) => Some(Step::More(Behind::High(b))),
+            (Behind::High(h), _) => byte_of(h, b),
         }
     }
 }
 
-// Writes the bytes that a line stands for from the start of `out` on, and answers how many, if there is no other backslash in it.
-pub(crate) fn unspell(line: &[u8], out: &mut [u8]) -> Option<usize>
-    requires { length line.now ≤ length out.old }
-    ensures { option_map (λ n. take n out.new) result ≡ unspelled line.now }
+// The bytes that a line stands for, if there is no other backslash in it.
+pub(crate) fn unspell(line: &[u8]) -> Option<ArrayVec<u8, SPELLED_LIMIT>>
+    requires { length line.now ≤ spelled_limit }
+    ensures { option_map (λ v. v.items) result ≡ unspelled line.now }
 {
+    let mut bytes = ArrayVec::new();
     let mut behind = Behind::Nothing;
-    let mut n = 0;
     for b in line {
-        match behind.step(*b) {
+        behind = match behind.step(*b)? {
             Step::Byte(byte) => {
-                out[n] = byte;
-                n += 1;
-                behind = Behind::Nothing;
+                bytes.push(byte);
+                Behind::Nothing
             }
-            Step::More(next) => behind = next,
-            Step::Bad => return None,
-        }
+            Step::More(next) => next,
+        };
     }
     match behind {
-        Behind::Nothing => Some(n),
+        Behind::Nothing => Some(bytes),
         _ => None,
     }
 }

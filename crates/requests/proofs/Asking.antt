@@ -7,7 +7,7 @@ use Rattle.std.proofs.lemmas.Bool.{and_from, and_left, and_parts, and_right, bot
 use Rattle.tlcp.specs.Lines.{and_then}
 use Rattle.tlcp.specs.Dividing.{divided_by, ends_here, has, joined_by, line_end}
 use Rattle.tlcp.proofs.Dividing.{divided-joined, joined-divided}
-use Rattle.tlcp.proofs.WordsAndEnds.{first_word}
+use Rattle.tlcp.proofs.Words.{first_word}
 use Rattle.requests.specs.Asked.{Asks, Given, ReadsAsked, Sound, found, spelling}
 use Rattle.requests.specs.Limits.{request_limit}
 use Rattle.requests.specs.Names.{is_in, name_of, names, name_word, needs, parameters_of, takes}

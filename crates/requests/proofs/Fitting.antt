@@ -10,7 +10,7 @@ use Rattle.tlcp.specs.Limits.{id_limit}
 use Rattle.tlcp.specs.Numbers.{number_of}
 use Rattle.tlcp.specs.Lines.{same_bytes}
 use Rattle.tlcp.proofs.Numerals.{reads-decimal}
-use Rattle.tlcp.proofs.Saying.{same_bytes_lem}
+use Rattle.tlcp.proofs.Words.{same_bytes_lem}
 use Rattle.requests.specs.Asked.{Numeral, Right}
 use Rattle.requests.specs.Limits.{request_id_limit}
 use Rattle.requests.specs.Values.{fitting, is_group, is_numeral, session_name}

@@ -5,7 +5,7 @@ use Rattle.std.specs.List.{AllByRecursion}
 use Rattle.std.proofs.lemmas.Bool.{cases_Bool, cond_both, cond-true, cond-false, both_ways, eq-eqb, not-false, not_from_true, or_cases, or_from, or_parts}
 use Rattle.tlcp.specs.Lines.{and_then}
 use Rattle.tlcp.specs.Lines.{same_bytes}
-use Rattle.tlcp.proofs.Saying.{same_bytes_lem}
+use Rattle.tlcp.proofs.Words.{same_bytes_lem}
 use Rattle.requests.specs.Asked.{Formed, Given, Right, adds, binds, creates, deletes, found, rebinds}
 use Rattle.requests.specs.Names.{first_needs, index_of, is_in, needs, operation_of, parameters_of, takes}
 use Rattle.requests.specs.Requests.{Pairs, Request, check_values, fitting_or, form_of, form_or, is_given, lacks, leftmost, pair_of, parameters, read_form, read_named, request_of, text_of, unfit, unfit_of, value_at_of, value_of}

@@ -1,6 +1,7 @@
 pub mod Valued
 pub mod Slots
-pub mod Heads
+pub mod Spread
+pub mod Least
 pub mod Fitting
 pub mod Pairing
 pub mod Forming

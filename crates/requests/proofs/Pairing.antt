@@ -14,8 +14,8 @@ use Rattle.tlcp.specs.Escapes.{decoded}
 use Rattle.tlcp.specs.Parts.{before, behind, place_of}
 use Rattle.tlcp.specs.Dividing.{first_with, has, NoneHas}
 use Rattle.tlcp.specs.Lines.{same_bytes}
-use Rattle.tlcp.proofs.WordsAndEnds.{first_word}
-use Rattle.tlcp.proofs.Saying.{same_bytes_lem}
+use Rattle.tlcp.proofs.Words.{first_word}
+use Rattle.tlcp.proofs.Words.{same_bytes_lem}
 use Rattle.tlcp.proofs.Encoded.{has-append}
 use Rattle.tlcp.proofs.Unescaped.{reads-escapes}
 use Rattle.requests.specs.Asked.{Apart, Given, Sound, found, spelling}

@@ -1,5 +1,6 @@
 -- The names of requests and of their parameters.
-use Rattle.std.specs.Prelude.{ℕ, Bool, false, cond, ◌||◌, List, [], ◌∷◌, Some, None, codes, Option, ◌==◌}
+use Rattle.std.specs.Prelude.{ℕ, Bool, cond, List, [], ◌∷◌, Some, None, codes, Option, ◌==◌}
+use Rattle.std.specs.List.{list_any}
 use Rattle.tlcp.specs.Dividing.{first_with}
 use Rattle.tlcp.specs.Lines.{same_bytes}
 use Rattle.requests.specs.declared.name.Name.{Name}
@@ -51,8 +52,7 @@ parameters_of BindSession = Session ∷ []
 parameters_of Control = RequestId ∷ Operation ∷ SubscriptionId ∷ Group ∷ Schema ∷ Mode ∷ Snapshot ∷ []
 
 abbrev pub is_in : Parameter → List Parameter → Bool
-is_in p [] = false
-is_in p (q ∷ qs) = index_of p == index_of q || is_in p qs
+is_in p qs = list_any (λ q. index_of p == index_of q) qs
 
 abbrev pub names : List Name
 names = CreateSession ∷ BindSession ∷ Control ∷ []
@@ -68,6 +68,14 @@ abbrev pub first_needs : Name → List Parameter
 first_needs CreateSession = Cid ∷ []
 first_needs BindSession = Session ∷ []
 first_needs Control = RequestId ∷ Operation ∷ []
+
+-- the word by which a request asks for a form: its operation's, or its name's where that has one form only
+abbrev pub form_word : Form → List ℕ
+form_word Create = name_word CreateSession
+form_word Bind = name_word BindSession
+form_word Add = codes "add"
+form_word Delete = codes "delete"
+form_word ForceRebind = codes "force_rebind"
 
 -- the operations of a control request, by the value of LS_op
 abbrev pub operation_of : List ℕ → Option Form

@@ -1,13 +1,15 @@
 -- What the reader's answers mean.
-use Rattle.std.specs.Prelude.{ℕ, List, map, take}
+use Rattle.std.specs.Prelude.{ℕ, List, map}
 use Rattle.std.specs.Option.{option_map}
 use Rattle.requests.specs.Requests as asked
 use Rattle.requests.specs.declared.pairs.Pair.{Pair}
 use Rattle.requests.specs.declared.pairs.Pairs.{Pairs}
-use Rattle.requests.specs.declared.word.Word.{Word}
+use Rattle.requests.specs.Limits.{value_limit}
+use Rattle.tlcp.specs.Bounds as bounds
+use Rattle.tlcp.specs.declared.bounded.Bounded.{Bounded}
 
-abbrev pub word_text : Word → List ℕ
-word_text w = take w.len w.bytes
+abbrev pub word_text : Bounded value_limit → List ℕ
+word_text = bounds.text_of
 
 abbrev pub pair_in : Pair → asked.Pair
 pair_in p = record { at = p.at; value_at = p.value_at; text = word_text p.word }

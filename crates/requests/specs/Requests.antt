@@ -1,5 +1,6 @@
 -- Requests: which bytes are taken for which request, or refused, and where.
-use Rattle.std.specs.Prelude.{ℕ, ◌+◌, min, Bool, false, cond, not, ◌||◌, List, [], ◌∷◌, length, take, drop, replicate, is_some, Some, None, Ok, Err, Option, Result, nat_le, nat_lt, slice_index_or, slice_set}
+use Rattle.std.specs.Prelude.{ℕ, ◌+◌, min, Bool, cond, not, List, [], ◌∷◌, length, take, drop, replicate, is_some, Some, None, Ok, Err, Option, Result, nat_le, nat_lt, slice_index_or, slice_set}
+use Rattle.std.specs.List.{list_any}
 use Rattle.std.specs.Option.{option_map, unwrap_or}
 use Rattle.tlcp.specs.Lists.{refusal}
 use Rattle.tlcp.specs.Lines.{and_then}
@@ -82,8 +83,7 @@ read_pairs n at (s ∷ ss) ps = and_then (read_pair n at s ps) (read_pairs n (at
 
 -- one of these is missing
 abbrev pub lacks : List Parameter → Pairs → Bool
-lacks [] ps = false
-lacks (p ∷ more) ps = not (is_given p ps) || lacks more ps
+lacks some ps = list_any (λ p. not (is_given p ps)) some
 
 abbrev pub form_or : ℕ → Option Form → Result Form Refusal
 form_or at None = Err (refusal Value at)

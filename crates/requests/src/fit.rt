@@ -6,13 +6,16 @@ ghost use Rattle.tlcp.specs.Lines.{same_bytes};
 
 use crate::name::Parameter;
 use row::Fault;
-use tlcp::{Class, ID_LIMIT, all_of, is_word, read_number, write_number};
+use tlcp::{Class, Limits, all_of, is_word, read_number};
 
 // The characters of a request's ID.
 pub const REQUEST_ID_LIMIT: usize = 8;
 
-// `S` and the digits of the largest session number.
-const SESSION_LIMIT: usize = 11;
+// The numbers of sessions.
+const SESSIONS: Limits = Limits {
+    low: 0,
+    high: u32::MAX,
+};
 
 // A number from 1 up, of any size.
 fn is_numeral(digits: &[u8]) -> bool
@@ -27,25 +30,21 @@ fn is_numeral(digits: &[u8]) -> bool
 fn is_group(text: &[u8]) -> bool
     ensures { result ≡ is_group text.now }
 {
-    match text {
-        [b't', digits @ ..] => is_numeral(digits),
-        _ => false,
-    }
+    matches!(text, [b't', digits @ ..] if is_numeral(digits))
 }
 
 fn is_request_id(text: &[u8]) -> bool
     ensures { result ≡ is_request_id text.now }
 {
-    text.len() >= 1 && text.len() <= REQUEST_ID_LIMIT && all_of(text, Class::Alphanumeric)
+    matches!(text.len(), 1..=REQUEST_ID_LIMIT) && all_of(text, Class::Alphanumeric)
 }
 
 fn is_session(text: &[u8], session: u32) -> bool
     ensures { result ≡ same_bytes text.now (session_name session) }
 {
-    let mut name = [b'S'; SESSION_LIMIT];
-    match write_number(&mut name, 1, session as u64) {
-        Ok(len) => is_word(text, &name[0..len]),
-        Err(_) => unreachable(),
+    match text {
+        [b'S', digits @ ..] => read_number(digits, SESSIONS) == Some(session),
+        _ => false,
     }
 }
 
@@ -58,7 +57,7 @@ impl Parameter {
             Parameter::Cid | Parameter::User | Parameter::Password | Parameter::Operation => true,
             Parameter::Session => is_session(text, session),
             Parameter::RequestId => is_request_id(text),
-            Parameter::SubscriptionId => read_number(text, 1, ID_LIMIT).is_some(),
+            Parameter::SubscriptionId => read_number(text, Limits::ID).is_some(),
             Parameter::Group => is_group(text),
             Parameter::Schema => is_word(text, b"all"),
             Parameter::Mode => is_word(text, b"MERGE"),

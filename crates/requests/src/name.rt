@@ -1,18 +1,17 @@
 // The names of requests and of their parameters.
 ghost use Rattle.std.specs.Prelude.{◌≡◌, ◌<◌};
-ghost use Rattle.tlcp.specs.Dividing.{first_with};
-ghost use Rattle.requests.specs.Names.{name_word, parameter_word, index_of, parameter_count, parameters_of, name_of, parameter_of, first_needs, operation_of, needs, takes, is_in};
+ghost use Rattle.requests.specs.Names.{name_word, parameter_word, form_word, index_of, parameter_count, parameters_of, name_of, parameter_of, first_needs, operation_of, needs, takes, is_in};
 
-use tlcp::is_word;
+use tlcp::{Worded, first_with};
 
-#[derive(Clone, Copy, PartialEq, Debug)]
+#[derive(Clone, Copy, PartialEq, Eq, Debug)]
 pub enum Name {
     CreateSession,
     BindSession,
     Control,
 }
 
-#[derive(Clone, Copy, PartialEq, Debug)]
+#[derive(Clone, Copy, PartialEq, Eq, Debug)]
 pub enum Parameter {
     Cid,
     User,
@@ -31,7 +30,7 @@ pub enum Parameter {
 pub const PARAMETER_COUNT: usize = 11;
 
 // What a request asks for: its name, and of a control request its operation.
-#[derive(Clone, Copy, PartialEq, Debug)]
+#[derive(Clone, Copy, PartialEq, Eq, Debug)]
 pub enum Form {
     Create,
     Bind,
@@ -42,39 +41,28 @@ pub enum Form {
 
 const NAMES: [Name; 3] = [Name::CreateSession, Name::BindSession, Name::Control];
 
-// The first of some parameters that has this word.
-fn first_of(parameters: &[Parameter], word: &[u8]) -> Option<Parameter>
-    ensures { result ≡ first_with parameter_word parameters.now word.now }
-{
-    for p in parameters {
-        if is_word(word, p.word()) {
-            return Some(*p);
-        }
-    }
-    None
-}
+// The forms of a control request.
+const OPERATIONS: [Form; 3] = [Form::Add, Form::Delete, Form::ForceRebind];
 
-impl Name {
-    pub fn word(self) -> &'static [u8]
-        ensures { result.now ≡ name_word self }
-    {
+impl Worded for Name {
+    ghost word_of = { name_word };
+
+    fn word(self) -> &'static [u8] {
         match self {
             Name::CreateSession => b"create_session",
             Name::BindSession => b"bind_session",
             Name::Control => b"control",
         }
     }
+}
 
+impl Name {
     // The name that a word stands for.
+    // kept: an Option says all there is; TryFrom would want an error that says no more
     pub fn of(word: &[u8]) -> Option<Name>
         ensures { result ≡ name_of word.now }
     {
-        for name in NAMES {
-            if is_word(word, name.word()) {
-                return Some(name);
-            }
-        }
-        None
+        first_with(&NAMES, word)
     }
 
     // The parameters of any request of this name.
@@ -95,12 +83,23 @@ impl Name {
             ],
         }
     }
+
+    // What any request of this name needs.
+    pub(crate) fn first_needs(self) -> &'static [Parameter]
+        ensures { result.now ≡ first_needs self }
+    {
+        match self {
+            Name::CreateSession => &[Parameter::Cid],
+            Name::BindSession => &[Parameter::Session],
+            Name::Control => &[Parameter::RequestId, Parameter::Operation],
+        }
+    }
 }
 
-impl Parameter {
-    pub fn word(self) -> &'static [u8]
-        ensures { result.now ≡ parameter_word self }
-    {
+impl Worded for Parameter {
+    ghost word_of = { parameter_word };
+
+    fn word(self) -> &'static [u8] {
         match self {
             Parameter::Cid => b"LS_cid",
             Parameter::User => b"LS_user",
@@ -115,14 +114,17 @@ impl Parameter {
             Parameter::Snapshot => b"LS_snapshot",
         }
     }
+}
 
+impl Parameter {
     // The parameter of a name that a word stands for.
     pub fn of(name: Name, word: &[u8]) -> Option<Parameter>
         ensures { result ≡ parameter_of name word.now }
     {
-        first_of(name.parameters(), word)
+        first_with(name.parameters(), word)
     }
 
+    // kept: pairs and marks stand in arrays by it, in fixed memory
     pub fn index(self) -> usize
         ensures value { result ≡ index_of self }
         ensures bound { result < parameter_count }
@@ -131,15 +133,17 @@ impl Parameter {
     }
 }
 
-impl Name {
-    // What any request of this name needs.
-    pub(crate) fn first_needs(self) -> &'static [Parameter]
-        ensures { result.now ≡ first_needs self }
-    {
+// The word by which a request asks for a form: its operation's, or its name's where that has one form only.
+impl Worded for Form {
+    ghost word_of = { form_word };
+
+    fn word(self) -> &'static [u8] {
         match self {
-            Name::CreateSession => &[Parameter::Cid],
-            Name::BindSession => &[Parameter::Session],
-            Name::Control => &[Parameter::RequestId, Parameter::Operation],
+            Form::Create => Name::CreateSession.word(),
+            Form::Bind => Name::BindSession.word(),
+            Form::Add => b"add",
+            Form::Delete => b"delete",
+            Form::ForceRebind => b"force_rebind",
         }
     }
 }
@@ -149,15 +153,7 @@ impl Form {
     pub(crate) fn of_operation(word: &[u8]) -> Option<Form>
         ensures { result ≡ operation_of word.now }
     {
-        if is_word(word, b"add") {
-            Some(Form::Add)
-        } else if is_word(word, b"delete") {
-            Some(Form::Delete)
-        } else if is_word(word, b"force_rebind") {
-            Some(Form::ForceRebind)
-        } else {
-            None
-        }
+        first_with(&OPERATIONS, word)
     }
 
     // What it needs, in the order in which values are checked.
@@ -165,23 +161,15 @@ impl Form {
         ensures { result.now ≡ needs self }
     {
         match self {
-            Form::Create => &[Parameter::Cid],
-            Form::Bind => &[Parameter::Session],
-            Form::Add => &[
-                Parameter::RequestId,
-                Parameter::Operation,
-                Parameter::SubscriptionId,
-                Parameter::Group,
-                Parameter::Schema,
-                Parameter::Mode,
-                Parameter::Snapshot,
-            ],
+            Form::Create => Name::CreateSession.first_needs(),
+            Form::Bind => Name::BindSession.parameters(),
+            Form::Add => Name::Control.parameters(),
             Form::Delete => &[
                 Parameter::RequestId,
                 Parameter::Operation,
                 Parameter::SubscriptionId,
             ],
-            Form::ForceRebind => &[Parameter::RequestId, Parameter::Operation],
+            Form::ForceRebind => Name::Control.first_needs(),
         }
     }
 
@@ -190,7 +178,7 @@ impl Form {
         ensures { result.now ≡ takes self }
     {
         match self {
-            Form::Create => &[Parameter::Cid, Parameter::User, Parameter::Password],
+            Form::Create => Name::CreateSession.parameters(),
             _ => self.needs(),
         }
     }
@@ -200,10 +188,5 @@ impl Form {
 pub fn is_in(parameter: Parameter, some: &[Parameter]) -> bool
     ensures { result ≡ is_in parameter some.now }
 {
-    for p in some {
-        if parameter.index() == p.index() {
-            return true;
-        }
-    }
-    false
+    some.contains(&parameter)
 }

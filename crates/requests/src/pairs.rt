@@ -1,14 +1,14 @@
 // The pairs of a request.
-ghost use Rattle.std.specs.Prelude.{◌≡◌, ◌+◌, ◌≤◌, length};
+ghost use Rattle.std.specs.Prelude.{◌≡◌, ◌+◌, ◌≤◌, length, true, false, Some};
 ghost use Rattle.std.specs.Option.{option_map};
 ghost use Rattle.tlcp.specs.Said.{on_ok};
 ghost use Rattle.requests.specs.Limits.{request_limit};
 ghost use Rattle.requests.specs.Read.{pair_in, pairs_in, word_text};
 ghost use Rattle.tlcp.specs.Dividing.{divided_by};
-ghost use Rattle.requests.specs.Requests.{no_pairs, pair_of, read_pair, read_pairs, text_of, value_of, value_at_of, lacks, leftmost, unfit_of, unfit, parameters, check_values};
+ghost use Rattle.requests.specs.Requests.{no_pairs, pair_of, read_pair, read_pairs, text_of, is_given, lacks, unfit_of, unfit, parameters, check_values};
 
 use crate::name::{Name, PARAMETER_COUNT, Parameter, is_in};
-use crate::word::Word;
+use crate::word::{Word, read_value};
 use row::{Fault, Refusal};
 use tlcp::split;
 
@@ -16,8 +16,8 @@ use tlcp::split;
 #[derive(Clone, Copy)]
 pub(crate) struct Pair {
     at: usize,
-    value_at: usize,
-    word: Word,
+    pub(crate) value_at: usize,
+    pub(crate) word: Word,
 }
 
 // The pairs that have been read, each at the place of its parameter.
@@ -40,17 +40,6 @@ const PARAMETERS: [Parameter; PARAMETER_COUNT] = [
     Parameter::Snapshot,
 ];
 
-// The smaller of two places, if there are two.
-fn leftmost_of(first: Option<usize>, second: Option<usize>) -> Option<usize>
-    ensures { result ≡ leftmost first second }
-{
-    match (first, second) {
-        (None, _) => second,
-        (Some(_), None) => first,
-        (Some(a), Some(b)) => Some(a.min(b)),
-    }
-}
-
 impl Pairs {
     pub(crate) const NONE: Pairs = Pairs {
         slots: [None; PARAMETER_COUNT],
@@ -68,25 +57,71 @@ impl Pairs {
         ensures { on_ok (λ _. pairs_in self.new) result ≡ read_pair name at pair.now (pairs_in self.old) }
     {
         let (word, value) = split(pair, b'=');
-        let Some(value) = value else {
-            return Err(Refusal {
-                fault: Fault::Shape,
-                place: at,
-            });
-        };
-        let unfit = Refusal {
-            fault: Fault::Parts,
-            place: at,
-        };
-        let Some(parameter) = Parameter::of(name, word) else {
-            return Err(unfit);
-        };
+        let value = value.ok_or(Fault::Shape.at(at))?;
+        let unfit = Fault::Parts.at(at);
+        let parameter = Parameter::of(name, word).ok_or(unfit)?;
         if self.get(parameter).is_some() {
             return Err(unfit);
         }
         let value_at = at + (word.len() + 1);
-        let word = Word::read(value, value_at)?;
+        let word = read_value(value, value_at)?;
         self.slots[parameter.index()] = Some(Pair { at, value_at, word });
+        Ok(())
+    }
+
+    // The value of a parameter, if it is given.
+    pub(crate) fn word(&self, parameter: Parameter) -> Option<Word>
+        ensures { option_map word_text result ≡ text_of parameter (pairs_in self.now) }
+    {
+        self.get(parameter).map(|pair| pair.word)
+    }
+
+    // The pair of a parameter that is given.
+    pub(crate) fn given(&self, parameter: Parameter) -> Pair
+        requires { is_given parameter (pairs_in self.now) ≡ true }
+        ensures { Some (pair_in result) ≡ pair_of parameter (pairs_in self.now) }
+    {
+        self.get(parameter).unwrap()
+    }
+
+    // Whether one of these is missing.
+    pub(crate) fn lack(&self, some: &[Parameter]) -> bool
+        ensures { result ≡ lacks some.now (pairs_in self.now) }
+    {
+        some.iter().any(|p| self.get(*p).is_none())
+    }
+
+    // Where the pair of a parameter stands, if it is given and none of these.
+    fn unfit_at(&self, taken: &[Parameter], parameter: Parameter) -> Option<usize>
+        ensures { result ≡ unfit_of taken.now (pairs_in self.now) parameter }
+    {
+        if is_in(parameter, taken) {
+            return None;
+        }
+        self.get(parameter).map(|pair| pair.at)
+    }
+
+    // Where the leftmost pair stands that is none of these.
+    pub(crate) fn unfit(&self, taken: &[Parameter]) -> Option<usize>
+        ensures { result ≡ unfit taken.now (pairs_in self.now) parameters }
+    {
+        PARAMETERS
+            .iter()
+            .filter_map(|p| self.unfit_at(taken, *p))
+            .min()
+    }
+
+    // Checks the values of some parameters, which are given, in their order.
+    pub(crate) fn check_values(&self, some: &[Parameter], session: u32) -> Result<(), Refusal>
+        requires { lacks some.now (pairs_in self.now) ≡ false }
+        ensures { result ≡ check_values session some.now (pairs_in self.now) }
+    {
+        for p in some {
+            let pair = self.given(*p);
+            if !p.fits(pair.word.text(), session) {
+                return Err(p.fault().at(pair.value_at));
+            }
+        }
         Ok(())
     }
 }
@@ -97,98 +132,10 @@ pub(crate) fn read_pairs(body: &[u8], start: usize, name: Name) -> Result<Pairs,
     ensures { on_ok pairs_in result ≡ read_pairs name start (divided_by 38 body.now) no_pairs }
 {
     let mut pairs = Pairs::NONE;
-    let mut left = body;
     let mut at = start;
-    loop {
-        let (pair, rest) = split(left, b'&');
+    for pair in body.split(|b| *b == b'&') {
         pairs.add(name, pair, at)?;
-        let Some(rest) = rest else {
-            return Ok(pairs);
-        };
         at += pair.len() + 1;
-        left = rest;
     }
-}
-
-impl Pairs {
-    // The value of a parameter, if it is given.
-    pub(crate) fn word(&self, parameter: Parameter) -> Option<Word>
-        ensures { option_map word_text result ≡ text_of parameter (pairs_in self.now) }
-    {
-        match self.get(parameter) {
-            Some(pair) => Some(pair.word),
-            None => None,
-        }
-    }
-
-    // The value of a parameter that is given.
-    pub(crate) fn value(&self, parameter: Parameter) -> Word
-        ensures { word_text result ≡ value_of parameter (pairs_in self.now) }
-    {
-        match self.get(parameter) {
-            Some(pair) => pair.word,
-            None => Word::EMPTY,
-        }
-    }
-
-    // Where it stands.
-    pub(crate) fn value_at(&self, parameter: Parameter) -> usize
-        ensures { result ≡ value_at_of parameter (pairs_in self.now) }
-    {
-        match self.get(parameter) {
-            Some(pair) => pair.value_at,
-            None => 0,
-        }
-    }
-
-    // Whether one of these is missing.
-    pub(crate) fn lack(&self, some: &[Parameter]) -> bool
-        ensures { result ≡ lacks some.now (pairs_in self.now) }
-    {
-        for p in some {
-            if self.get(*p).is_none() {
-                return true;
-            }
-        }
-        false
-    }
-
-    // Where the pair of a parameter stands, if it is given and none of these.
-    fn unfit_at(&self, taken: &[Parameter], parameter: Parameter) -> Option<usize>
-        ensures { result ≡ unfit_of taken.now (pairs_in self.now) parameter }
-    {
-        if is_in(parameter, taken) {
-            return None;
-        }
-        match self.get(parameter) {
-            Some(pair) => Some(pair.at),
-            None => None,
-        }
-    }
-
-    // Where the leftmost pair stands that is none of these.
-    pub(crate) fn unfit(&self, taken: &[Parameter]) -> Option<usize>
-        ensures { result ≡ unfit taken.now (pairs_in self.now) parameters }
-    {
-        let mut first = None;
-        for p in PARAMETERS {
-            first = leftmost_of(first, self.unfit_at(taken, p));
-        }
-        first
-    }
-
-    // Checks the values of some parameters, in their order.
-    pub(crate) fn check_values(&self, some: &[Parameter], session: u32) -> Result<(), Refusal>
-        ensures { result ≡ check_values session some.now (pairs_in self.now) }
-    {
-        for p in some {
-            if !p.fits(self.value(*p).text(), session) {
-                return Err(Refusal {
-                    fault: p.fault(),
-                    place: self.value_at(*p),
-                });
-            }
-        }
-        Ok(())
-    }
+    Ok(pairs)
 }

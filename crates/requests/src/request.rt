@@ -1,18 +1,20 @@
 // Requests.
-ghost use Rattle.std.specs.Prelude.{◌≡◌, ◌≤◌, [], length};
+ghost use Rattle.std.specs.Prelude.{◌≡◌, ◌≤◌, [], length, true, false};
 ghost use Rattle.tlcp.specs.Lines.{and_then};
 ghost use Rattle.tlcp.specs.Said.{on_ok};
 ghost use Rattle.requests.specs.Answers.{asked, request_in};
 ghost use Rattle.requests.specs.Asked.{ReadsAsked};
 ghost use Rattle.requests.specs.Limits.{request_limit};
 ghost use Rattle.requests.specs.Read.{pairs_in};
-ghost use Rattle.requests.specs.Requests.{form_of, id_of, read_form, read_named, read_request, request_of, text_of};
+ghost use Rattle.requests.specs.Names.{first_needs, needs};
+ghost use Rattle.requests.specs.declared.name.Parameter.TheVariants.{SubscriptionId};
+ghost use Rattle.requests.specs.Requests.{is_given, lacks, form_of, id_of, read_form, read_named, read_request, request_of, text_of};
 
 use crate::name::{Form, Name, Parameter};
 use crate::pairs::{Pairs, read_pairs};
 use crate::word::Word;
 use row::{Fault, Refusal};
-use tlcp::{ID_LIMIT, find_end, read_number};
+use tlcp::{Limits, find_end, read_number};
 
 // The bytes of a request.
 pub const REQUEST_LIMIT: usize = 2048;
@@ -41,54 +43,53 @@ pub enum Request {
 }
 
 impl Pairs {
-    // The form of a request of this name.
+    // The form of a request of this name, whose first needs are given.
     fn form(&self, name: Name) -> Result<Form, Refusal>
+        requires { lacks (first_needs name) (pairs_in self.now) ≡ false }
         ensures { result ≡ form_of name (pairs_in self.now) }
     {
         match name {
             Name::CreateSession => Ok(Form::Create),
             Name::BindSession => Ok(Form::Bind),
-            Name::Control => match Form::of_operation(self.value(Parameter::Operation).text()) {
-                Some(form) => Ok(form),
-                None => Err(Refusal {
-                    fault: Fault::Value,
-                    place: self.value_at(Parameter::Operation),
-                }),
-            },
+            Name::Control => {
+                let operation = self.given(Parameter::Operation);
+                Form::of_operation(operation.word.text()).ok_or(Fault::Value.at(operation.value_at))
+            }
         }
     }
 
     fn subscription(&self) -> u32
+        requires { is_given SubscriptionId (pairs_in self.now) ≡ true }
         ensures { result ≡ id_of (λ p. text_of p (pairs_in self.now)) }
     {
-        match read_number(self.value(Parameter::SubscriptionId).text(), 1, ID_LIMIT) {
-            Some(id) => id,
-            None => 0,
-        }
+        // kept: its value was checked before; a clause that says so for each form is longer than this default
+        let id = self.given(Parameter::SubscriptionId);
+        read_number(id.word.text(), Limits::ID).unwrap_or(0)
     }
 
-    // What the pairs ask for in this form.
+    // What the pairs ask for in this form, whose needs are given.
     fn request(&self, form: Form) -> Request
+        requires { lacks (needs form) (pairs_in self.now) ≡ false }
         ensures { request_in result ≡ request_of (λ p. text_of p (pairs_in self.now)) form }
     {
         match form {
             Form::Create => Request::Create {
-                cid: self.value(Parameter::Cid),
+                cid: self.given(Parameter::Cid).word,
                 user: self.word(Parameter::User),
                 password: self.word(Parameter::Password),
             },
             Form::Bind => Request::Bind,
             Form::Add => Request::Add {
-                request: self.value(Parameter::RequestId),
+                request: self.given(Parameter::RequestId).word,
                 subscription: self.subscription(),
-                group: self.value(Parameter::Group),
+                group: self.given(Parameter::Group).word,
             },
             Form::Delete => Request::Delete {
-                request: self.value(Parameter::RequestId),
+                request: self.given(Parameter::RequestId).word,
                 subscription: self.subscription(),
             },
             Form::ForceRebind => Request::ForceRebind {
-                request: self.value(Parameter::RequestId),
+                request: self.given(Parameter::RequestId).word,
             },
         }
     }
@@ -98,16 +99,10 @@ impl Pairs {
         ensures { on_ok request_in result ≡ read_form session end (pairs_in self.now) form }
     {
         if self.lack(form.needs()) {
-            return Err(Refusal {
-                fault: Fault::Parts,
-                place: end,
-            });
+            return Err(Fault::Parts.at(end));
         }
         if let Some(at) = self.unfit(form.takes()) {
-            return Err(Refusal {
-                fault: Fault::Parts,
-                place: at,
-            });
+            return Err(Fault::Parts.at(at));
         }
         self.check_values(form.needs(), session)?;
         Ok(self.request(form))
@@ -118,10 +113,7 @@ impl Pairs {
         ensures { on_ok request_in result ≡ read_named session end name (pairs_in self.now) }
     {
         if self.lack(name.first_needs()) {
-            return Err(Refusal {
-                fault: Fault::Parts,
-                place: end,
-            });
+            return Err(Fault::Parts.at(end));
         }
         self.read_form(self.form(name)?, end, session)
     }
@@ -133,24 +125,11 @@ pub fn read_request(text: &[u8], session: u32) -> Result<Request, Refusal>
     ensures grammar { ReadsAsked }
 {
     if text.len() > REQUEST_LIMIT {
-        return Err(Refusal {
-            fault: Fault::Length,
-            place: 0,
-        });
+        return Err(Fault::Length.at(0));
     }
-    let end = find_end(text);
-    if end == text.len() {
-        return Err(Refusal {
-            fault: Fault::Shape,
-            place: end,
-        });
-    }
-    let Some(name) = Name::of(&text[0..end]) else {
-        return Err(Refusal {
-            fault: Fault::Unknown,
-            place: 0,
-        });
-    };
-    let pairs = read_pairs(&text[end + 2..], end + 2, name)?;
+    let end = find_end(text).ok_or(Fault::Shape.at(text.len()))?;
+    let name = Name::of(&text[..end]).ok_or(Fault::Unknown.at(0))?;
+    let body = end + 2;
+    let pairs = read_pairs(&text[body..], body, name)?;
     pairs.read_named(name, text.len(), session)
 }

@@ -3,7 +3,7 @@ use Rattle.std.specs.Prelude.{◌≡◌, ℕ, zero, suc, ◌+◌, ◌-◌, ◌<�
 use Rattle.std.proofs.Common.{sym, ap, ◌∙◌, ⊎_elim, append_assoc, le_of_suc-le-suc, not-suc-le-zero, arith}
 use Rattle.std.specs.List.{AllByRecursion}
 use Rattle.std.proofs.lemmas.List.{get_or-drop, length-drop, length-take, take-append-drop, take_more, take_all, drop_all, drop-append-le, drop_at, set_at, length-append, length-replicate, length-take-le, take_at}
-use Rattle.std.proofs.lemmas.Bool.{both_ways, and_parts, and_from, cases_lt, cases_Bool, ltb-true, leb-true, eqb-true, le-leb, eq-eqb, cond-true, cond-false, cond_both}
+use Rattle.std.proofs.lemmas.Bool.{lt-ltb, both_ways, and_parts, and_from, cases_lt, cases_Bool, ltb-true, leb-true, eqb-true, le-leb, eq-eqb, cond-true, cond-false, cond_both}
 use Rattle.row.specs.Texts.{every, is_byte, is_zero, padded, text_allowed, text_sound, text_whole, text_of, text_record, text_kind}
 use Rattle.row.specs.Limits.{text_limit}
 use Rattle.row.specs.Kinds.{Kind, Lawful, Represents}
@@ -57,6 +57,10 @@ every-all p P f [] e = tt
 every-all p P f (x ∷ xs) e =
     let h = and_parts (p x) (every p xs) e in
     (f x h.0, every-all p P f xs h.1)
+
+pub bytes-every : (xs : List ℕ) → ((i : ℕ) → slice_index xs i < 256) → every is_byte xs ≡ true
+bytes-every [] f = refl
+bytes-every (x ∷ xs) f = and_from (is_byte x) (every is_byte xs) (lt-ltb x 256 (f 0)) (bytes-every xs (λ i. f (suc i)))
 
 pub all-bytes : (t : List ℕ) → every is_byte t ≡ true → AllByRecursion (λ b. b < 256) t
 all-bytes = every-all is_byte (λ b. b < 256) (λ b. ltb-true b 256)

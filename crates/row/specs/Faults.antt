@@ -1,6 +1,7 @@
--- The number of each refusal.
-use Rattle.std.specs.Prelude.{ℕ}
+-- The number of each refusal, and how a refusal is printed.
+use Rattle.std.specs.Prelude.{ℕ, List, ◌∷◌, ◌++◌, decimal}
 use Rattle.row.specs.declared.fault.Fault.{Fault}
+use Rattle.row.specs.declared.fault.Refusal.{Refusal}
 use Rattle.row.specs.declared.fault.Fault.TheVariants.{Memory, Shape, Escape, Number, Unknown, Parts, Cover, Value, State, Absent, Order, Subscribed, Full, Wire, Nothing, Length}
 
 abbrev pub number_of : Fault → ℕ
@@ -20,3 +21,7 @@ number_of Full = 13
 number_of Wire = 14
 number_of Nothing = 15
 number_of Length = 16
+
+-- the fault's number, a space and the place
+abbrev pub printed : Refusal → List ℕ
+printed r = decimal (number_of r.fault) ++ 32 ∷ decimal r.place

@@ -1,5 +1,6 @@
 -- The text kind: a value is any text of at most `text_limit` bytes.
 use Rattle.std.specs.Prelude.{ℕ, ◌-◌, Bool, true, cond, ◌&&◌, List, [], ◌∷◌, ◌++◌, length, take, drop, replicate, ◌==◌, nat_le, nat_lt}
+use Rattle.std.specs.List.{list_all}
 use Rattle.row.specs.Limits.{text_limit}
 use Rattle.row.specs.Kinds.{Kind}
 use Rattle.row.specs.declared.text.TextRecord.{TextRecord}
@@ -10,8 +11,7 @@ padded n xs = xs ++ replicate (n - length xs) 0
 
 -- the test p at each element
 abbrev pub every : (ℕ → Bool) → List ℕ → Bool
-every p [] = true
-every p (x ∷ xs) = p x && every p xs
+every = list_all
 
 abbrev pub is_byte : ℕ → Bool
 is_byte b = nat_lt b 256

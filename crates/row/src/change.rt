@@ -17,6 +17,7 @@ pub enum Mark {
 }
 
 // A change of one field. Where it is same or null, `raw` is the kind's rest record.
+// kept: in lent memory each place holds a record by the project's rule, which an enum's case without one could not promise
 #[derive(Clone, Copy)]
 pub struct Change<R> {
     pub mark: Mark,
@@ -24,6 +25,7 @@ pub struct Change<R> {
 }
 
 // A field's state. Where it is null, `raw` is the kind's rest record.
+// kept: a flag beside the record, as a change has its mark
 #[derive(Clone, Copy)]
 pub struct Cell<R> {
     pub null: bool,
@@ -66,10 +68,7 @@ impl<R: Copy> Change<R> {
     pub fn is_same(&self) -> bool
         ensures { result ≡ is_same self.now.mark }
     {
-        match self.mark {
-            Mark::Same => true,
-            Mark::Null | Mark::Value => false,
-        }
+        matches!(self.mark, Mark::Same)
     }
 
     // The change that stands for this one and then another.
@@ -83,11 +82,58 @@ impl<R: Copy> Change<R> {
     }
 }
 
+// What becomes of a place by what stands in the same place of another list.
+trait Step<By>: Copy {
+    ghost after: { Self → By → Self };
+
+    fn after(self, by: By) -> Self
+        ensures { result ≡ after self by };
+}
+
+impl<R: Copy> Step<Change<R>> for Cell<R> {
+    ghost after = { takes };
+
+    fn after(self, by: Change<R>) -> Cell<R> {
+        self.changed_by(by)
+    }
+}
+
+impl<R: Copy> Step<Change<R>> for Change<R> {
+    ghost after = { later };
+
+    fn after(self, by: Change<R>) -> Change<R> {
+        self.then(by)
+    }
+}
+
+impl<R: Copy> Step<Cell<R>> for Change<R> {
+    ghost after = { λ _ c. wholly c };
+
+    fn after(self, by: Cell<R>) -> Change<R> {
+        by.as_change()
+    }
+}
+
+// Each place by the one of the other list, if both have the places of a row.
+fn step_all<X: Step<By>, By: Copy>(places: &mut [X], by: &[By]) -> Result<(), Refusal>
+    ensures answer { result ≡ answer_if (rows_fit places.old by.now) }
+    ensures places { places.new ≡ (if rows_fit places.old by.now then over X.after places.old by.now else places.old) }
+{
+    if places.len() != FIELD_LIMIT || by.len() != FIELD_LIMIT {
+        return Err(Refusal::MEMORY);
+    }
+    // kept: of iter_mut().zip(by) a proof knows no element
+    for (i, place) in places.iter_mut().enumerate() {
+        *place = place.after(by[i]);
+    }
+    Ok(())
+}
+
 fn fill<X: Copy>(places: &mut [X], x: X)
     ensures { places.new ≡ replicate (length places.old) x }
 {
-    for i in 0..places.len() {
-        places[i] = x;
+    for place in places.iter_mut() {
+        *place = x;
     }
 }
 
@@ -119,16 +165,7 @@ pub fn change_row<R: Value>(row: &mut [Cell<R>], delta: &[Change<R>]) -> Result<
     ensures cells { row.new ≡ (if rows_fit row.old delta.now then over takes row.old delta.now else row.old) }
     ensures means { map (cell_of R.kind) row.new ≡ (if rows_fit row.old delta.now then changed (map (cell_of R.kind) row.old) (map (change_of R.kind) delta.now) else map (cell_of R.kind) row.old) }
 {
-    if row.len() != FIELD_LIMIT || delta.len() != FIELD_LIMIT {
-        return Err(Refusal::MEMORY);
-    }
-    for i in 0..FIELD_LIMIT {
-        // most changes are same, and a cell is long
-        if !delta[i].is_same() {
-            row[i] = row[i].changed_by(delta[i]);
-        }
-    }
-    Ok(())
+    step_all(row, delta)
 }
 
 // Joins a later delta to an earlier one, in place of the earlier.
@@ -137,13 +174,7 @@ pub fn join_delta<R: Value>(earlier: &mut [Change<R>], next: &[Change<R>]) -> Re
     ensures changes { earlier.new ≡ (if rows_fit earlier.old next.now then over later earlier.old next.now else earlier.old) }
     ensures means { map (change_of R.kind) earlier.new ≡ (if rows_fit earlier.old next.now then join (map (change_of R.kind) earlier.old) (map (change_of R.kind) next.now) else map (change_of R.kind) earlier.old) }
 {
-    if earlier.len() != FIELD_LIMIT || next.len() != FIELD_LIMIT {
-        return Err(Refusal::MEMORY);
-    }
-    for i in 0..FIELD_LIMIT {
-        earlier[i] = earlier[i].then(next[i]);
-    }
-    Ok(())
+    step_all(earlier, next)
 }
 
 // Makes a delta of a whole row: every field null or a value.
@@ -152,11 +183,5 @@ pub fn whole_row<R: Value>(row: &[Cell<R>], delta: &mut [Change<R>]) -> Result<(
     ensures changes { delta.new ≡ (if rows_fit row.now delta.old then map wholly row.now else delta.old) }
     ensures means { rows_fit row.now delta.old ≡ true → map (change_of R.kind) delta.new ≡ map becomes (map (cell_of R.kind) row.now) }
 {
-    if row.len() != FIELD_LIMIT || delta.len() != FIELD_LIMIT {
-        return Err(Refusal::MEMORY);
-    }
-    for i in 0..FIELD_LIMIT {
-        delta[i] = row[i].as_change();
-    }
-    Ok(())
+    step_all(delta, row)
 }

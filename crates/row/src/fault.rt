@@ -1,6 +1,8 @@
 // Why a text, a line or a call is refused.
-ghost use Rattle.std.specs.Prelude.{◌≡◌};
-ghost use Rattle.row.specs.Faults.{number_of};
+ghost use Rattle.std.specs.Prelude.{◌≡◌, ◌∷◌, ◌++◌, decimal, Some};
+ghost use Rattle.row.specs.Faults.{number_of, printed};
+
+use std::fmt;
 
 #[derive(Clone, Copy, PartialEq, Debug)]
 pub enum Fault {
@@ -38,11 +40,21 @@ pub enum Fault {
     Length,
 }
 
+// The number by which a fault is known.
+impl From<Fault> for u8 {
+    ghost from_gives = { λ fault n. n ≡ number_of fault };
+
+    fn from(fault: Fault) -> u8 {
+        fault as u8
+    }
+}
+
 impl Fault {
-    pub fn number(self) -> u8
-        ensures { result ≡ number_of self }
+    // The refusal for this fault, at a place.
+    pub fn at(self, place: usize) -> Refusal
+        ensures { result ≡ record { fault = self; place = place } }
     {
-        self as u8
+        Refusal { fault: self, place }
     }
 }
 
@@ -58,4 +70,13 @@ impl Refusal {
         fault: Fault::Memory,
         place: 0,
     };
+}
+
+// The fault's number and the place.
+impl fmt::Display for Refusal {
+    ghost output = { λ r. Some (printed r) };
+
+    fn fmt<W: fmt::Write>(&self, f: &mut fmt::Formatter<W>) -> fmt::Result {
+        write!(f, "{} {}", u8::from(self.fault), self.place)
+    }
 }

@@ -72,6 +72,7 @@ impl Logic {
     }
 
     // The value with this text, if there is one.
+    // kept: an Option says all there is; TryFrom would want an error that says no more
     pub fn new(text: &[u8]) -> Option<Logic>
         ensures { option_map (λ l. l.held) result ≡ (if logic_allowed text.now then Some (logic_record text.now) else None) }
     {
@@ -120,6 +121,7 @@ impl Logic {
     {
         let LogicRecord { a, b, width } = self.held;
         *out = [0; TEXT_LIMIT];
+        // kept: place by place from the highest bit; of iter_mut().zip(..) a proof knows no element
         for i in 0..width {
             let place = width - 1 - i;
             out[i as usize] = char_of(bit_at(a, place), bit_at(b, place));
@@ -138,16 +140,11 @@ impl Value for LogicRecord {
     }
 
     fn read(text: &[u8]) -> Option<LogicRecord> {
-        match Logic::new(text) {
-            Some(value) => Some(value.record()),
-            None => None,
-        }
+        Logic::new(text).map(|value| value.record())
     }
 
     fn write(&self, out: &mut [u8; TEXT_LIMIT]) -> usize {
-        match Logic::check(*self) {
-            Some(value) => value.write(out),
-            None => Logic::rest().write(out),
-        }
+        let value = Logic::check(*self).unwrap_or(Logic::rest());
+        value.write(out)
     }
 }

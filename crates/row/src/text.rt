@@ -6,6 +6,7 @@ ghost use Rattle.row.specs.Texts.{text_allowed, text_sound, text_record};
 pub const TEXT_LIMIT: usize = 32;
 
 // A text as memory holds it. Nothing is known of it.
+// kept: bytes with a length beside are the plain record of lent memory, by the project's rule
 #[derive(Clone, Copy, Debug)]
 pub struct TextRecord {
     pub bytes: [u8; TEXT_LIMIT],
@@ -21,6 +22,7 @@ pub struct Text {
 
 impl Text {
     // The text with these bytes, if they are not too many.
+    // kept: an Option says all there is; TryFrom would want an error that says no more
     pub fn new(text: &[u8]) -> Option<Text>
         ensures { option_map (λ t. t.held) result ≡ (if text_allowed text.now then Some (text_record text.now) else None) }
     {
@@ -28,9 +30,7 @@ impl Text {
             return None;
         }
         let mut bytes = [0u8; TEXT_LIMIT];
-        for (i, b) in text.iter().enumerate() {
-            bytes[i] = *b;
-        }
+        bytes[..text.len()].copy_from_slice(text);
         let held = TextRecord {
             bytes,
             len: text.len() as u8,
@@ -45,8 +45,8 @@ impl Text {
         if held.len as usize > TEXT_LIMIT {
             return None;
         }
-        for i in 0..TEXT_LIMIT {
-            if held.bytes[i] != 0 && i >= held.len as usize {
+        for (i, b) in held.bytes.iter().enumerate() {
+            if *b != 0 && i >= held.len as usize {
                 return None;
             }
         }

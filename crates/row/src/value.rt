@@ -6,7 +6,7 @@ ghost use Rattle.row.specs.Texts.{padded, text_kind, text_sound, text_whole};
 ghost use Rattle.row.specs.Logics.{logic_kind, logic_sound};
 ghost use Rattle.row.specs.Every.{text-lawful};
 
-use crate::text::{Text, TextRecord};
+use crate::text::{TEXT_LIMIT, Text, TextRecord};
 
 pub trait Value: Copy {
     ghost kind: { Kind Self };
@@ -20,7 +20,7 @@ pub trait Value: Copy {
         ensures { result ≡ (if kind.allowed text.now then Some (kind.raw text.now) else None) };
 
     // Writes the text that the record means, with zeros behind it, and answers its length.
-    fn write(&self, out: &mut [u8; 32]) -> usize
+    fn write(&self, out: &mut [u8; TEXT_LIMIT]) -> usize
         ensures length { result ≡ length (kind.text self.now) }
         ensures bytes { out.new ≡ padded text_limit (kind.text self.now) };
 
@@ -34,19 +34,16 @@ impl Value for TextRecord {
 
     fn rest() -> TextRecord {
         TextRecord {
-            bytes: [0; 32],
+            bytes: [0; TEXT_LIMIT],
             len: 0,
         }
     }
 
     fn read(text: &[u8]) -> Option<TextRecord> {
-        match Text::new(text) {
-            Some(value) => Some(value.record()),
-            None => None,
-        }
+        Text::new(text).map(|value| value.record())
     }
 
-    fn write(&self, out: &mut [u8; 32]) -> usize {
+    fn write(&self, out: &mut [u8; TEXT_LIMIT]) -> usize {
         match Text::check(*self) {
             Some(value) => {
                 let TextRecord { bytes, len } = value.record();
@@ -54,7 +51,7 @@ impl Value for TextRecord {
                 len as usize
             }
             None => {
-                *out = [0; 32];
+                *out = [0; TEXT_LIMIT];
                 0
             }
         }

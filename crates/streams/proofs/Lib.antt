@@ -1,3 +1,3 @@
 pub mod Places
 pub mod Holding
-pub mod Pieces
+pub mod Fed

@@ -1,6 +1,6 @@
 -- Where the first end stands, byte by byte and part by part.
-use Rattle.std.proofs.Common.{◌≡◌, ℕ, zero, suc, ◌+◌, ◌-◌, ◌*◌, ◌<◌, ◌≤◌, Bool, true, false, cond, ◌||◌, eqb, ltb, List, [], ◌∷◌, length, get_or, take, drop, sym, refl, ap, ◌∙◌, zero-add, mul-suc, arith}
-use Rattle.std.proofs.lemmas.List.{at_drop_more, at_drop_all, drop-drop, length-drop}
+use Rattle.std.proofs.Common.{◌≡◌, ℕ, suc, ◌+◌, ◌*◌, ◌<◌, ◌≤◌, Bool, true, false, cond, ◌||◌, eqb, ltb, List, [], ◌∷◌, ◌++◌, length, get_or, drop, sym, refl, ap, ◌∙◌, zero-add, mul-suc, arith}
+use Rattle.std.proofs.lemmas.List.{at_drop_more, at_drop_all}
 use Rattle.std.proofs.lemmas.Bool.{cond-true, cond-false, eq-eqb, ne_eqb, lt-ltb, le-ltb}
 use Rattle.std.proofs.lemmas.Bool.Decides.{nat_tests}
 use Rattle.tlcp.specs.Parts.{place_of}
@@ -33,44 +33,34 @@ module _ (b : ℕ) where
   pub holds-no-more : (s : List ℕ) (i : ℕ) (any : Bool) → length s ≤ i → any ≡ (any || holds b (drop i s))
   holds-no-more s i any h = sym (ap (λ t. any || t) (at_drop_all (holds b) s i h ∙ le-ltb 0 0 (omega arith)) ∙ or-false any)
 
-  pub place-part : (n : ℕ) (s : List ℕ) → n ≤ length s → place_of b s ≡ cond (holds b (take n s)) (place_of b (take n s)) (n + place_of b (drop n s))
-  place-part zero s h = sym (cond-false (ltb 0 0) 0 (0 + place_of b s) (le-ltb 0 0 (omega arith)) ∙ zero-add (place_of b s))
-  place-part (suc n) [] h = absurd (omega arith)
-  place-part (suc n) (x ∷ s) h = by (eqb x b) (place-part n s (omega arith))
-    where
-      p : ℕ
-      p = place_of b (take n s)
+  -- a part, and the bytes behind it
+  module _ (rest : List ℕ) where
+    abbrev q : ℕ
+    q = place_of b rest
 
-      m : ℕ
-      m = length (take n s)
+    place-append : (part : List ℕ) → place_of b (part ++ rest) ≡ cond (holds b part) (place_of b part) (length part + q)
+    place-append [] = sym (cond-false (ltb 0 0) 0 (0 + q) (le-ltb 0 0 (omega arith)) ∙ zero-add q)
+    place-append (x ∷ part) = by (eqb x b) (place-append part)
+      where
+        p : ℕ
+        p = place_of b part
 
-      q : ℕ
-      q = place_of b (drop n s)
+        m : ℕ
+        m = length part
 
-      both : (e : Bool) → suc (cond e p (n + q)) ≡ cond e (suc p) (suc n + q)
-      both true = refl
-      both false = omega arith
+        both : (e : Bool) → suc (cond e p (m + q)) ≡ cond e (suc p) (suc m + q)
+        both true = refl
+        both false = omega arith
 
-      by : (e : Bool) → place_of b s ≡ cond (ltb p m) p (n + q) → cond e 0 (suc (place_of b s)) ≡ cond (ltb (cond e 0 (suc p)) (suc m)) (cond e 0 (suc p)) (suc n + q)
-      by true ih = sym (cond-true (ltb 0 (suc m)) 0 (suc n + q) (lt-ltb 0 (suc m) (omega arith)))
-      by false ih = ap suc ih ∙ both (ltb p m) ∙ ap (λ e. cond e (suc p) (suc n + q)) (sym (further p m))
+        by : (e : Bool) → place_of b (part ++ rest) ≡ cond (ltb p m) p (m + q) → cond e 0 (suc (place_of b (part ++ rest))) ≡ cond (ltb (cond e 0 (suc p)) (suc m)) (cond e 0 (suc p)) (suc m + q)
+        by true ih = sym (cond-true (ltb 0 (suc m)) 0 (suc m + q) (lt-ltb 0 (suc m) (omega arith)))
+        by false ih = ap suc ih ∙ both (ltb p m) ∙ ap (λ e. cond e (suc p) (suc m + q)) (sym (further p m))
 
-  -- a turn of the search: so many bytes from the place at on
-  module _ (s : List ℕ) (at n : ℕ) (room : at + n ≤ length s) where
-    part-is : take (at + n - at) (drop at s) ≡ take n (drop at s)
-    part-is = let m : at + n - at ≡ n = omega arith in ap (λ k. take k (drop at s)) m
+    pub place-within : (part : List ℕ) → holds b part ≡ true → place_of b (part ++ rest) ≡ place_of b part
+    place-within part is = place-append part ∙ cond-true (holds b part) _ _ is
 
-    found : place_of b (drop at s) ≡ cond (holds b (take n (drop at s))) (place_of b (take n (drop at s))) (n + place_of b (drop n (drop at s)))
-    found = place-part n (drop at s) (let l = length-drop at s in omega arith)
-
-    pub part-has : holds b (take (at + n - at) (drop at s)) ≡ true → place_of b (take (at + n - at) (drop at s)) ≡ place_of b (drop at s)
-    part-has is = ap (place_of b) part-is ∙ sym (found ∙ cond-true (holds b (take n (drop at s))) _ _ (ap (holds b) (sym part-is) ∙ is))
-
-    pub part-has-not : holds b (take (at + n - at) (drop at s)) ≡ false → at + n + place_of b (drop (at + n) s) ≡ at + place_of b (drop at s)
-    part-has-not is =
-        let rest : place_of b (drop n (drop at s)) ≡ place_of b (drop (at + n) s) = ap (place_of b) (drop-drop n at s) in
-        let e = found ∙ cond-false (holds b (take n (drop at s))) _ _ (ap (holds b) (sym part-is) ∙ is) in
-        omega arith
+    pub place-behind : (part : List ℕ) → holds b part ≡ false → place_of b (part ++ rest) ≡ length part + place_of b rest
+    place-behind part is = place-append part ∙ cond-false (holds b part) _ _ is
 
   -- a turn at the byte i: the end is counted on by step as long as no b came
   module _ (s : List ℕ) (i end step : ℕ) (sofar : end + step * place_of b (drop i s) ≡ place_of b s) where

@@ -1,2 +1,5 @@
 pub mod Ends
 pub mod Held
+pub mod Feeding
+pub mod Heard
+pub mod Streams

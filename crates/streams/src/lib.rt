@@ -1,8 +1,15 @@
-// Lines cut from blocks of input.
+// Lines cut from blocks of input, and heard one after another.
 #![tactic(auto)]
 
 mod ends;
+mod hear;
 mod held;
+mod print;
+mod run;
+mod stream;
 
 pub use ends::split_line;
+pub use hear::Hear;
 pub use held::{front, hold, without_cr};
+pub use run::answer_all;
+pub use stream::Stream;

@@ -3,7 +3,7 @@ use Rattle.std.proofs.Common.{◌≡◌, ℕ, suc, ◌+◌, ◌≤◌, Bool, tru
 use Rattle.std.proofs.lemmas.Bool.{cond_both, cond-true, cond-false, or_parts, or_from, eqb-true, eq-eqb, lt-ltb}
 use Rattle.std.proofs.lemmas.Bool.Decides.{nat_tests}
 use Rattle.tlcp.specs.Parts.{place_of, before, behind}
-use Rattle.tlcp.specs.Lists.{push}
+use Rattle.tlcp.specs.Parts.{push}
 use Rattle.tlcp.specs.Dividing.{has, divided_by, each_behind, joined_by, NoneHas}
 
 module _ (c : ℕ) where

@@ -1,12 +1,12 @@
 -- Texts with any bytes escaped: what they hold, how long they are, and that they are read back.
-use Rattle.std.proofs.Common.{◌≡◌, ℕ, ◌*◌, ◌/◌, ◌%◌, ◌<◌, ◌≤◌, Bool, true, false, eqb, List, [], ◌∷◌, ◌++◌, length, take, drop, Some, None, Ok, Option, sym, refl, ap, ◌∙◌, arith}
+use Rattle.std.proofs.Common.{◌≡◌, ℕ, ◌/◌, ◌%◌, ◌<◌, ◌≤◌, Bool, true, false, eqb, List, [], ◌∷◌, ◌++◌, length, take, drop, Some, None, Ok, Option, sym, refl, ap, ◌∙◌, arith}
 use Rattle.std.specs.List.{AllByRecursion}
-use Rattle.std.proofs.lemmas.List.{length-append, take_all, take_at}
+use Rattle.std.proofs.lemmas.List.{take_all, take_at}
 use Rattle.std.proofs.lemmas.Bool.{both_ways, or_parts, or_from, ne_eqb}
 use Rattle.tlcp.specs.Bytes.{is_hex, is_escaped, is_escaped_first}
 use Rattle.tlcp.specs.Dividing.{has}
-use Rattle.tlcp.specs.Escapes.{count_or, overlaid, Decodes, nothing, hex_digit, spelled, encoded_by, encode_rest, encode}
-use Rattle.tlcp.proofs.Unescaped.{is-hex, decodes-spelled, length-spelled}
+use Rattle.tlcp.specs.Escapes.{count_or, overlaid, hex_digit, spelled, encoded_by, encode_rest, encode}
+use Rattle.tlcp.proofs.Unescaped.{is-hex}
 
 -- what `decode` answers where there is no fault, and what it leaves in its buffer
 pub sound-answer : (n : ℕ) (t : List ℕ) (f : Option ℕ) → Ok n ≡ count_or (length t) f → (n ≡ length t) × (f ≡ None)
@@ -20,16 +20,6 @@ take-overlaid t xs n is room =
 -- it is none of the bytes that are no digits
 hex-other : (c n : ℕ) → is_hex c ≡ false → n < 16 → eqb (hex_digit n) c ≡ false
 hex-other c n other h = ne_eqb (hex_digit n) c (λ e. both_ways (is_hex c) other (ap is_hex (sym e) ∙ is-hex n h))
-
--- a text is read back if each `%` is escaped
-pub decodes-by : (p : ℕ → Bool) → ((b : ℕ) → p b ≡ false → eqb b 37 ≡ false) → (t : List ℕ) → AllByRecursion (λ b. b < 256) t → Decodes (encoded_by p t) t
-decodes-by p other [] h = nothing
-decodes-by p other (b ∷ t) h = decodes-spelled (p b) b h.0 (other b) (decodes-by p other t h.1)
-
--- what stands behind a value's first byte is escaped where it is of one class
-rest-by : (t : List ℕ) → encode_rest t ≡ encoded_by is_escaped t
-rest-by [] = refl
-rest-by (b ∷ t) = ap (λ l. spelled (is_escaped b) b ++ l) (rest-by t)
 
 pub has-append : (c : ℕ) (s t : List ℕ) → has c s ≡ false → has c t ≡ false → has c (s ++ t) ≡ false
 has-append c [] t e f = f
@@ -56,8 +46,4 @@ module _ (c : ℕ) (digit : is_hex c ≡ false) (percent : eqb 37 c ≡ false) w
   has-encode other (b ∷ t) h =
       has-append c (spelled (is_escaped_first b) b) (encode_rest t)
       (has-spelled (is_escaped_first b) b h.0 (λ e. other b (or_parts (is_escaped b) _ e).0))
-      (ap (has c) (rest-by t) ∙ has-by is_escaped other t h.1)
-
-pub length-by : (p : ℕ → Bool) (t : List ℕ) → length (encoded_by p t) ≤ 3 * length t
-length-by p [] = omega arith
-length-by p (b ∷ t) = simp length-append (omega (arith, length-spelled (p b) b, length-by p t))
+      (has-by is_escaped other t h.1)

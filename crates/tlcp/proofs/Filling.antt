@@ -9,8 +9,8 @@ use Rattle.row.specs.Rows.{Change, same}
 use Rattle.row.specs.declared.change.Change as memory
 use Rattle.row.specs.declared.fault.Refusal.{Refusal}
 use Rattle.tlcp.specs.Held.{filled, size, size_or, slot_after}
-use Rattle.tlcp.specs.Lists.{Meant, sames, one, values, push, read_value, read_values, take_meant, ahead, shifted, uncovered}
-use Rattle.tlcp.specs.Parts.{place_of, before, behind}
+use Rattle.tlcp.specs.Lists.{Meant, sames, one, values, read_value, read_values, take_meant, ahead, shifted, uncovered}
+use Rattle.tlcp.specs.Parts.{place_of, before, behind, push}
 
 -- the values behind the first, if there is a pipe
 abbrev pub values_of : Option (List ℕ) → List (List ℕ)

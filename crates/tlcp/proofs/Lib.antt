@@ -15,4 +15,5 @@ pub mod Reading
 pub mod Encoding
 pub mod Encoded
 pub mod Dividing
+pub mod Words
 pub mod WordsAndEnds

@@ -1,11 +1,10 @@
 -- Bytes in their places: what a writer leaves, step by step.
-use Rattle.std.proofs.Common.{◌≡◌, ℕ, ◌+◌, ◌-◌, ◌/◌, ◌%◌, ◌^◌, ◌<◌, ◌≤◌, true, List, [], ◌∷◌, ◌++◌, length, take, drop, set, Ok, Err, decimal, sym, ap, ◌∙◌, append_assoc, add-zero, add_assoc, arith}
+use Rattle.std.proofs.Common.{◌≡◌, ℕ, ◌+◌, ◌≤◌, true, List, [], ◌++◌, length, take, drop, Ok, Err, sym, ap, ◌∙◌, append_assoc, add-zero, add_assoc, arith}
 use borrow.Rule.Slice.PartMut.{put_mid}
-use Rattle.std.proofs.lemmas.Fmt.{decimal_digit, decimal_step, decimal_nonempty, length-decimal-le}
-use Rattle.std.proofs.lemmas.List.{length-append, length-drop, length-set, length-take-le, take_at, take-append-drop, drop_at, drop-drop, drop-set}
+use Rattle.std.proofs.lemmas.List.{length-append, length-drop, length-take-le, take_at, take-append-drop, drop_at, drop-drop}
 use Rattle.std.proofs.lemmas.Bool.{le-leb, cond-true}
 use Rattle.row.specs.declared.fault.Refusal.{Refusal}
-use Rattle.tlcp.specs.Written.{placed, fits, end_or, placed_or, Appended}
+use Rattle.tlcp.specs.Written.{placed, fits, end_or, placed_or}
 
 -- a part of xs, k places from `at` on, now holds t
 pub put-placed : (at k : ℕ) (xs ys t : List ℕ) → ys ≡ t → k ≡ length t → put_mid at k xs ys ≡ placed at t xs
@@ -15,57 +14,10 @@ put-placed at k xs ys t e f =
 pub fitting : (at : ℕ) (t xs : List ℕ) → at + length t ≤ length xs → fits at t xs ≡ true
 fitting at t xs h = le-leb (at + length t) (length xs) h
 
--- what is written where it fits stands behind the first `at`
-pub placed-appended : (at : ℕ) (t xs : List ℕ) (r : ℕ) (ys : List ℕ) → at + length t ≤ length xs → Ok r ≡ end_or at t xs → ys ≡ placed_or at t xs → Appended at xs t r ys
-placed-appended at t xs r ys room answer bytes =
-    let fit = fitting at t xs room in
-    let front = take at xs ++ t in
-    let size : length front ≡ at + length t = length-append (take at xs) t ∙ ap (λ k. k + length t) (length-take-le at xs (omega arith)) in
-    let whole : ys ≡ front ++ drop (at + length t) xs = bytes ∙ cond-true _ _ _ fit ∙ sym (append_assoc (take at xs) t _) in
-    let end : Ok r ≡ Ok (at + length t) = answer ∙ cond-true _ _ _ fit in
-    let count : r ≡ at + length t = cc in
-    record { count = count; bytes = (λ i. take (count i) (whole i)) ∙ take_at front _ (at + length t) size }
-
 pub no-refusal : (at : ℕ) (t xs : List ℕ) (e : Refusal) → at + length t ≤ length xs → Err e ≡ end_or at t xs → ⊥
 no-refusal at t xs e room answer =
     let end : Err e ≡ Ok (at + length t) = answer ∙ cond-true _ _ _ (fitting at t xs room) in
     let z : ◌≡◌ {A = ℕ} 0 1 = cc in omega arith
-
--- the digits of n: those of `left`, and then those that are written already, from the place `first` on
-pub record Ahead (n left first : ℕ) (digits : List ℕ) : Type 0 where
-  pub size : length digits ≡ 20
-  pub low : first ≤ 20
-  pub whole : decimal n ≡ decimal left ++ drop first digits
-
-module _ (n left first : ℕ) (digits : List ℕ) (h : Ahead n left first digits) (small : left ≤ n) (fit : n < 2 ^ 64) where
-  -- there is a place for the next digit
-  pub digit_room : 0 < first
-  digit_room =
-      let all = length-decimal-le 20 n (omega arith) (omega arith) fit in
-      let some = decimal_nonempty left (omega arith) in
-      omega (arith, ap length h.whole, length-append (decimal left) (drop first digits), length-drop first digits)
-
-  -- the next digit d stands in its place
-  drop-digit : (d : ℕ) → drop (first - 1) (set digits (first - 1) d) ≡ d ∷ drop first digits
-  drop-digit d =
-      let room = digit_room in
-      let back : first - 1 + 1 ≡ first = omega arith in
-      drop-set digits (first - 1) d (omega (arith, h.size, h.low)) ∙ ap (λ k. d ∷ drop k digits) back
-
-  pub digit-ahead : 10 ≤ left → Ahead n (left / 10) (first - 1) (set digits (first - 1) (48 + left % 10))
-  digit-ahead many =
-      let d = 48 + left % 10 in
-      record {
-        size = length-set digits (first - 1) d ∙ h.size;
-        low = omega (arith, h.low);
-        whole =
-            h.whole ∙ ap (λ ds. ds ++ drop first digits) (decimal_step left many (omega arith))
-            ∙ append_assoc (decimal (left / 10)) (d ∷ []) (drop first digits)
-            ∙ sym (ap (λ ds. decimal (left / 10) ++ ds) (drop-digit d));
-      }
-
-  pub digit-last : left < 10 → drop (first - 1) (set digits (first - 1) (48 + left)) ≡ decimal n
-  digit-last few = drop-digit (48 + left) ∙ sym (h.whole ∙ ap (λ ds. ds ++ drop first digits) (decimal_digit left few))
 
 pub placed-none : (at : ℕ) (xs : List ℕ) → placed at [] xs ≡ xs
 placed-none at xs = ap (λ k. take at xs ++ drop k xs) (add-zero at) ∙ take-append-drop at xs

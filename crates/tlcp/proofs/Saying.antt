@@ -3,15 +3,16 @@ use Rattle.std.proofs.Common.{◌≡◌, ℕ, suc, ◌+◌, ◌^◌, ◌<◌, �
 use Rattle.std.specs.Option.{option_map}
 use Rattle.std.specs.List.{AllByRecursion}
 use Rattle.std.proofs.lemmas.List.{length-append, take_at, drop_at, drop-drop}
-use Rattle.std.proofs.lemmas.Bool.{and_parts, or_parts, or_from, cases_Bool, eqb-true, leb-true, le-leb, le-ltb, lt-ltb, cond-true, cond-false}
+use Rattle.std.proofs.lemmas.Bool.{or_parts, or_from, cases_Bool, eqb-true, leb-true, le-leb, le-ltb, lt-ltb, cond-true, cond-false}
 use Rattle.row.specs.declared.fault.Fault.{Fault}
 use Rattle.row.specs.declared.fault.Refusal.{Refusal}
 use Rattle.tlcp.specs.Escapes.{decoded, ReadsEscapes}
 use Rattle.tlcp.specs.Limits.{line_limit}
 use Rattle.tlcp.specs.Parts.{before, behind, place_of, Piece}
-use Rattle.tlcp.specs.Lines.{same_bytes, word, first_tag, tags, tag_of, Sort, number, code, text, list, sorts, Argument, numbered, coded, worded, listed, Message, piece, front, rest, and_then, ahead, or_fault, sound_or, read_argument, read_arguments, arguments_of, message_of, read_tagged, read_line, Kept, piece_of, has_comma, Laid, none, last, more, Says, ReadsSaid}
+use Rattle.tlcp.specs.Lines.{word, tags, tag_of, Sort, number, code, text, list, sorts, Argument, numbered, coded, worded, listed, Message, piece, front, rest, and_then, ahead, or_fault, sound_or, read_argument, read_arguments, arguments_of, message_of, read_tagged, read_line, Kept, piece_of, has_comma, Laid, none, last, more, Says, ReadsSaid}
 use Rattle.tlcp.specs.declared.tag.Tag.{Tag}
 use Rattle.tlcp.specs.declared.tag.Tag.TheVariants.{U, Probe, Sync, Loop, Cons, Servname, Clientip, Reqok, Unsub, Conerr, End, Error, Eos, Subok, Ov, Conf, Reqerr, Conok}
+use Rattle.tlcp.proofs.Words.{first_word}
 use Rattle.tlcp.proofs.Numerals.{reads-decimal, reads-signed}
 
 -- what stands behind a text without commas: nothing, or a comma and more
@@ -59,23 +60,6 @@ rest-is : (x : List ℕ) (o : Option (List ℕ)) (at comma : ℕ) → has_comma 
 rest-is x o at comma plain is =
     let k : at + (place_of 44 (x ++ tail_of o) + 1) ≡ comma + 1 = omega (arith, place_is x o plain) in
     λ i. option_map (λ t. piece t (k i)) (behind-is x o plain i)
-
--- tags
-pub same_bytes_lem : (x y : List ℕ) → same_bytes x y ≡ true → x ≡ y
-same_bytes_lem [] [] e = refl
-same_bytes_lem [] (b ∷ y) e = cc
-same_bytes_lem (a ∷ x) [] e = cc
-same_bytes_lem (a ∷ x) (b ∷ y) e =
-    let h = and_parts (eqb a b) (same_bytes x y) e in
-    λ i. eqb-true a b h.0 i ∷ same_bytes_lem x y h.1 i
-
-tag_read : (ts : List Tag) (s : List ℕ) (t : Tag) → first_tag ts s ≡ Some t → s ≡ word t
-tag_read [] s t e = cc
-tag_read (u ∷ ts) s t e =
-    ⊎_elim
-    (λ this. let same : u ≡ t = cc (cond-true _ (Some u) (first_tag ts s) this) in same_bytes_lem s (word u) this ∙ ap word same)
-    (λ other. tag_read ts s t (sym (cond-false _ (Some u) _ other) ∙ e))
-    (cases_Bool (same_bytes s (word u)))
 
 -- the numbers of a sort are of 64 bits, as `reads-decimal` asks
 abbrev Bounded : Sort → Type 0
@@ -227,19 +211,6 @@ module _ (escapes : ReadsEscapes) where
             ∙ read_more k j ks end (piece (x ++ tail_of o) (at + 1)) a others (ap (read_argument k) first ∙ read-argument escapes k bound.0 a kept) (ap (arguments_of (j ∷ ks) end) behind ∙ read),
       )
 
--- an argument that is read lies in the line
-abbrev Within : ℕ → Argument → Type 0
-Within limit a = (piece_of a).at + length (piece_of a).text ≤ limit
-
-within-read : (limit : ℕ) (ks : List Sort) (end at : ℕ) (o : Option (List ℕ)) (args : List Argument) → arguments_of ks end (here at o) ≡ Ok args → at + length (tail_of o) ≤ limit → AllByRecursion (Within limit) args
-within-read limit =
-    by-reading (λ ks at args s. at + length s ≤ limit → AllByRecursion (Within limit) args) (λ at h. tt)
-    (λ k at a x read h. (inside k at a x read (omega arith), tt))
-    (λ k j ks at a others x s read plain behind h. let long = length-append x s in (inside k at a x read (omega arith), behind (omega arith)))
-  where
-    inside : (k : Sort) (at : ℕ) (a : Argument) (x : List ℕ) → read_argument k (piece x (at + 1)) ≡ Ok a → at + 1 + length x ≤ limit → Within limit a
-    inside k at a x read h = subst (λ p. p.at + length p.text ≤ limit) (sym (piece-read k _ a read)) h
-
 -- whole lines
 ok-where : {X : Type 0} (t : Bool) (r : Result X Refusal) (f : Refusal) (x : X) → cond t r (Err f) ≡ Ok x → (t ≡ true) × (r ≡ Ok x)
 ok-where true r f x e = (refl, e)
@@ -263,7 +234,7 @@ line_read m x o plain e =
     let (short, read) = ok-where (leb (length s) line_limit) _ _ m e in
     let (tag, name, args) = tagged-read s (tag_of (before 44 s)) m read in (
       leb-true (length s) line_limit short,
-      tag_read tags x m.tag (ap tag_of (sym (before-is x o plain)) ∙ tag),
+      first_word word tags x m.tag (ap tag_of (sym (before-is x o plain)) ∙ tag),
       sym name ∙ front-is x o 0 plain,
       ap (arguments_of (sorts m.tag) (length s)) (sym (rest-is x o 0 (length x) plain (omega arith))) ∙ args,
     )
@@ -300,11 +271,3 @@ reads-said escapes s m = (parted (λ t. read_line t ≡ Ok m → Says t m) says 
         ap read_line line
         ∙ read-line t o m.args (omega (arith, ap length line, h.short)) (ap (λ n. arguments_of (sorts t) n (here (length (word t)) o)) (ap length (sym line)) ∙ args)
         ∙ ap (λ n. Ok (record { tag = t; name = n; args = m.args })) (sym h.name)
-
-pub update-within : (s : List ℕ) (m : Message) → read_line s ≡ Ok m → AllByRecursion (λ a. (piece_of a).at + length (piece_of a).text ≤ line_limit) m.args
-update-within s m =
-    parted (λ t. read_line t ≡ Ok m → AllByRecursion (Within line_limit) m.args)
-    (λ x o plain e.
-    let (short, is, name, args) = line_read m x o plain e in
-    within-read line_limit (sorts m.tag) _ (length x) o m.args args (omega (arith, length-append x (tail_of o))))
-    s

@@ -6,7 +6,8 @@ use Rattle.row.specs.Limits.{field_limit}
 use Rattle.row.specs.Rows.{Change, same, becomes, null, value}
 use Rattle.row.specs.declared.fault.Refusal.{Refusal}
 use Rattle.tlcp.specs.Escapes.{decoded}
-use Rattle.tlcp.specs.Lists.{each_piped, values, push, has_pipe, NoPipes, piped, Meant, sames, one, is_nil, read_text, text_or, caret_or, read_value, take_meant, ahead, read_values, Means, unchanged, run, nothing, empty, content, Row, done, next, ReadsSpelled}
+use Rattle.tlcp.specs.Parts.{push}
+use Rattle.tlcp.specs.Lists.{each_piped, values, has_pipe, NoPipes, piped, Meant, sames, one, is_nil, read_text, text_or, caret_or, read_value, take_meant, ahead, read_values, Means, unchanged, run, nothing, empty, content, Row, done, next, ReadsSpelled}
 use Rattle.tlcp.specs.Numbers.{number_of, ReadsDecimal}
 use Rattle.tlcp.proofs.Unescaped.{reads-escapes}
 

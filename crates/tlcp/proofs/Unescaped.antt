@@ -2,11 +2,10 @@
 use Rattle.std.proofs.Common.{◌≡◌, ℕ, ◌+◌, ◌*◌, ◌/◌, ◌%◌, ◌<◌, ◌≤◌, Bool, true, false, cond, ◌&&◌, eqb, List, [], ◌∷◌, ◌++◌, length, None, refl, ap, ◌∙◌, subst, arith}
 use Rattle.std.specs.List.{AllByRecursion}
 use Rattle.std.proofs.lemmas.List.{length-append}
-use Rattle.std.proofs.lemmas.Bool.{cond_both, cond-true, cond-false, and_parts, and_from, or_parts, or_from, eqb-true}
+use Rattle.std.proofs.lemmas.Bool.{cond_both, cond-true, cond-false, and_parts, and_from, or_parts, eqb-true}
 use Rattle.std.proofs.lemmas.Bool.Decides.{nat_tests}
 use Rattle.tlcp.specs.Bytes.{is_hex, is_escaped, is_escaped_first}
-use Rattle.tlcp.specs.Escapes.{Decoded, decode_at, stopped, onto, Decodes, nothing, plain, escape, ReadsEscapes, hex_value, hex_digit, spelled, encode_rest, encode}
-use Rattle.tlcp.specs.Lists.{has_pipe}
+use Rattle.tlcp.specs.Escapes.{Decoded, decode_at, stopped, onto, Decodes, nothing, plain, escape, ReadsEscapes, hex_value, hex_digit, spelled, encode_rest, encoded_by, encode}
 
 -- all was decoded
 abbrev whole : List ℕ → Decoded
@@ -56,9 +55,6 @@ is-hex n h = grind (arith, nat_tests)
 pub hex-value : (n : ℕ) → n < 16 → hex_value (hex_digit n) ≡ n
 hex-value n h = grind (arith, nat_tests)
 
-hex-pipe : (n : ℕ) → n < 16 → eqb (hex_digit n) 124 ≡ false
-hex-pipe n h = grind (arith, nat_tests)
-
 -- a byte, escaped or not, is read back; one that is not escaped is no `%`
 pub decodes-spelled : (v : Bool) (b : ℕ) {s t : List ℕ} → b < 256 → (v ≡ false → eqb b 37 ≡ false) → Decodes s t → Decodes (spelled v b ++ s) (b ∷ t)
 decodes-spelled false b small other r = plain (other refl) r
@@ -71,39 +67,17 @@ decodes-spelled true b {s} {t} small other r =
 pub plain-percent : (b : ℕ) → is_escaped b ≡ false → eqb b 37 ≡ false
 plain-percent b e = grind (arith, nat_tests)
 
-decodes-rest : (t : List ℕ) → AllByRecursion (λ b. b < 256) t → Decodes (encode_rest t) t
-decodes-rest [] h = nothing
-decodes-rest (b ∷ t) h = decodes-spelled (is_escaped b) b h.0 (plain-percent b) (decodes-rest t h.1)
+-- a text is read back if each `%` is escaped
+pub decodes-by : (p : ℕ → Bool) → ((b : ℕ) → p b ≡ false → eqb b 37 ≡ false) → (t : List ℕ) → AllByRecursion (λ b. b < 256) t → Decodes (encoded_by p t) t
+decodes-by p other [] h = nothing
+decodes-by p other (b ∷ t) h = decodes-spelled (p b) b h.0 (other b) (decodes-by p other t h.1)
 
 pub decodes-encode : (t : List ℕ) → AllByRecursion (λ b. b < 256) t → Decodes (encode t) t
 decodes-encode [] h = nothing
-decodes-encode (b ∷ t) h = decodes-spelled (is_escaped_first b) b h.0 (λ e. plain-percent b (or_parts (is_escaped b) _ e).0) (decodes-rest t h.1)
+decodes-encode (b ∷ t) h = decodes-spelled (is_escaped_first b) b h.0 (λ e. plain-percent b (or_parts (is_escaped b) _ e).0) (decodes-by is_escaped plain-percent t h.1)
 
-pub no-pipe-append : (s t : List ℕ) → has_pipe s ≡ false → has_pipe t ≡ false → has_pipe (s ++ t) ≡ false
-no-pipe-append [] t e f = f
-no-pipe-append (b ∷ s) t e f =
-    let h = or_parts (eqb b 124) (has_pipe s) e in
-    or_from (eqb b 124) (has_pipe (s ++ t)) h.0 (no-pipe-append s t h.1 f)
-
-no-pipe-spelled : (v : Bool) (b : ℕ) → b < 256 → (v ≡ false → eqb b 124 ≡ false) → has_pipe (spelled v b) ≡ false
-no-pipe-spelled false b small other = or_from (eqb b 124) false (other refl) refl
-no-pipe-spelled true b small other =
-    or_from (eqb (hex_digit (b / 16)) 124) _ (hex-pipe (b / 16) (omega arith))
-    (or_from (eqb (hex_digit (b % 16)) 124) false (hex-pipe (b % 16) (omega arith)) refl)
-
-plain-pipe : (b : ℕ) → is_escaped b ≡ false → eqb b 124 ≡ false
+pub plain-pipe : (b : ℕ) → is_escaped b ≡ false → eqb b 124 ≡ false
 plain-pipe b e = grind (arith, nat_tests)
-
-no-pipe-rest : (t : List ℕ) → AllByRecursion (λ b. b < 256) t → has_pipe (encode_rest t) ≡ false
-no-pipe-rest [] h = refl
-no-pipe-rest (b ∷ t) h = no-pipe-append (spelled (is_escaped b) b) (encode_rest t) (no-pipe-spelled (is_escaped b) b h.0 (plain-pipe b)) (no-pipe-rest t h.1)
-
--- not of numbers above 255: the first hexadecimal digit of 1104 would be a pipe
-pub no-pipe-encode : (t : List ℕ) → AllByRecursion (λ b. b < 256) t → has_pipe (encode t) ≡ false
-no-pipe-encode [] h = refl
-no-pipe-encode (b ∷ t) h =
-    no-pipe-append (spelled (is_escaped_first b) b) (encode_rest t)
-    (no-pipe-spelled (is_escaped_first b) b h.0 (λ e. plain-pipe b (or_parts (is_escaped b) _ e).0)) (no-pipe-rest t h.1)
 
 -- s begins with a byte that is none of `#`, `$` and `^`
 pub record Content (s : List ℕ) : Type 0 where
@@ -127,10 +101,10 @@ pub length-spelled : (v : Bool) (b : ℕ) → length (spelled v b) ≤ 3
 length-spelled true b = omega arith
 length-spelled false b = omega arith
 
-length_rest : (t : List ℕ) → length (encode_rest t) ≤ 3 * length t
-length_rest [] = omega arith
-length_rest (b ∷ t) = simp length-append (omega (arith, length-spelled (is_escaped b) b, length_rest t))
+pub length-by : (p : ℕ → Bool) (t : List ℕ) → length (encoded_by p t) ≤ 3 * length t
+length-by p [] = omega arith
+length-by p (b ∷ t) = simp length-append (omega (arith, length-spelled (p b) b, length-by p t))
 
 pub length-encode : (t : List ℕ) → length (encode t) ≤ 3 * length t
 length-encode [] = omega arith
-length-encode (b ∷ t) = simp length-append (omega (arith, length-spelled (is_escaped_first b) b, length_rest t))
+length-encode (b ∷ t) = simp length-append (omega (arith, length-spelled (is_escaped_first b) b, length-by is_escaped t))

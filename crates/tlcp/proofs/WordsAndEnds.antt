@@ -1,11 +1,10 @@
 -- Where the first end of a line stands, and which word a text is.
-use Rattle.std.proofs.Common.{◌≡◌, ℕ, suc, ◌+◌, ◌-◌, ◌<◌, ◌≤◌, true, false, cond, eqb, leb, List, [], ◌∷◌, length, get_or, take, drop, Some, sym, ap, ◌∙◌, ⊎_elim, arith}
+use Rattle.std.proofs.Common.{◌≡◌, ℕ, suc, ◌+◌, ◌-◌, ◌<◌, ◌≤◌, true, false, cond, eqb, leb, List, [], ◌∷◌, length, get_or, take, drop, Some, sym, ap, ◌∙◌, arith}
 use Rattle.std.proofs.lemmas.List.{at_drop_more, take_rest, length-drop}
-use Rattle.std.proofs.lemmas.Bool.{and_parts, cases_Bool, cond_both, leb-true, cond-true, cond-false}
+use Rattle.std.proofs.lemmas.Bool.{and_parts, cond_both, leb-true, cond-true, cond-false}
 use Rattle.tlcp.specs.Parts.{place_of}
 use Rattle.tlcp.specs.Lines.{same_bytes}
 use Rattle.tlcp.specs.Dividing.{ends_here, first_with, line_end}
-use Rattle.tlcp.proofs.Saying.{same_bytes_lem}
 
 pub place-within : (b : ℕ) (s : List ℕ) → place_of b s ≤ length s
 place-within b [] = omega arith
@@ -37,12 +36,3 @@ module _ {X : Type 0} (word : X → List ℕ) (xs : List X) (s : List ℕ) (i : 
 
   pub first-further : i < length xs → same_bytes s (word (get_or xs i d)) ≡ false → first_with word (drop i xs) s ≡ first_with word (drop (i + 1) xs) s
   first-further h e = step h ∙ cond-false _ _ _ e
-
--- the thing that was found has that word
-pub first_word : {X : Type 0} (word : X → List ℕ) (xs : List X) (s : List ℕ) (x : X) → first_with word xs s ≡ Some x → s ≡ word x
-first_word word [] s x e = cc
-first_word word (y ∷ xs) s x e =
-    ⊎_elim
-    (λ this. let same : y ≡ x = cc (cond-true _ (Some y) (first_with word xs s) this) in same_bytes_lem s (word y) this ∙ ap word same)
-    (λ other. first_word word xs s x (sym (cond-false _ (Some y) _ other) ∙ e))
-    (cases_Bool (same_bytes s (word y)))

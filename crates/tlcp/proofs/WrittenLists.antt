@@ -12,7 +12,8 @@ use Rattle.tlcp.specs.Lists.{each_piped, has_pipe, NoPipes, Means, unchanged, ru
 use Rattle.tlcp.specs.Numbers.{ReadsDecimal}
 use Rattle.tlcp.specs.Written.{field_room}
 use Rattle.tlcp.proofs.Spelling.{reads-spelled}
-use Rattle.tlcp.proofs.Unescaped.{no-pipe-append, no-pipe-encode, decodes-encode, encode-content, length-encode}
+use Rattle.tlcp.proofs.Encoded.{has-append, has-encode}
+use Rattle.tlcp.proofs.Unescaped.{plain-pipe, decodes-encode, encode-content, length-encode}
 
 -- one more of a run stands before or behind it
 replicate-through : {X : Type 0} (n : ℕ) (x : X) (xs : List X) → replicate n x ++ (x ∷ xs) ≡ x ∷ (replicate n x ++ xs)
@@ -22,14 +23,14 @@ replicate-through (suc n) x xs = ap (λ l. x ∷ l) (replicate-through n x xs)
 pub no-pipe-decimal : (n : ℕ) → n < 2 ^ 64 → has_pipe (decimal n) ≡ false
 no-pipe-decimal =
     decimal_by_steps (λ n ds. has_pipe ds ≡ false) digit
-    (λ n ds many h. no-pipe-append ds _ h (digit _ (omega arith)))
+    (λ n ds many h. has-append 124 ds _ h (digit _ (omega arith)))
   where
     digit : (n : ℕ) → n < 10 → has_pipe ((48 + n) ∷ []) ≡ false
     digit n small = or_from (eqb (48 + n) 124) false (grind (arith, nat_tests)) refl
 
 text-apart : (t : List ℕ) → AllByRecursion (λ b. b < 256) t → has_pipe (text_value t) ≡ false
 text-apart [] bytes = refl
-text-apart (b ∷ t) bytes = no-pipe-encode (b ∷ t) bytes
+text-apart (b ∷ t) bytes = has-encode 124 refl refl plain-pipe (b ∷ t) bytes
 
 module _ (allowed : List ℕ → Bool) where
   -- the values mean d and can stand between pipes

@@ -1,35 +1,15 @@
--- Texts divided by a byte or by the ends of lines, and words among others.
-use Rattle.std.specs.Prelude.{◌≡◌, ℕ, suc, Bool, false, cond, ◌&&◌, ◌||◌, List, [], ◌∷◌, length, drop, Some, None, Option, ◌==◌, nat_le, slice_index}
-use Rattle.std.specs.List.{flat_map}
-use Rattle.tlcp.specs.Lists.{push}
-use Rattle.tlcp.specs.Lines.{same_bytes}
-
--- b stands in a text
-abbrev pub has : ℕ → List ℕ → Bool
-has b [] = false
-has b (x ∷ s) = x == b || has b s
-
--- what stands between the bytes c of a text
-abbrev pub divided_by : ℕ → List ℕ → List (List ℕ)
-divided_by c [] = [] ∷ []
-divided_by c (b ∷ s) = let more = divided_by c s in cond (b == c) ([] ∷ more) (push b more)
-
--- texts with c before each
-abbrev pub each_behind : ℕ → List (List ℕ) → List ℕ
-each_behind c ts = flat_map (λ t. c ∷ t) ts
-
--- texts with c between them
-abbrev pub joined_by : ℕ → List (List ℕ) → List ℕ
-joined_by c ts = drop 1 (each_behind c ts)
-
-abbrev pub NoneHas : ℕ → List (List ℕ) → Type 0
-NoneHas c [] = Unit {0}
-NoneHas c (t ∷ ts) = (has c t ≡ false) × NoneHas c ts
+-- Texts divided by the ends of lines, words among others, and the pieces of a line one after another.
+use Rattle.std.specs.Prelude.{ℕ, suc, Bool, cond, ◌&&◌, List, [], ◌∷◌, length, find, Some, None, Ok, Err, Option, Result, ◌==◌, nat_le, nat_lt, slice_index}
+use Rattle.row.specs.declared.fault.Fault.TheVariants.{Parts}
+use Rattle.row.specs.declared.fault.Refusal.{Refusal}
+use Rattle.tlcp.specs.Lists.{refusal}
+use Rattle.tlcp.specs.Lines.{front, rest, same_bytes}
+pub use Rattle.tlcp.specs.Parts.{has, divided_by, each_behind, joined_by, NoneHas}
+use Rattle.tlcp.specs.Parts.{Piece}
 
 -- the first of some things whose word a text is
 abbrev pub first_with : {X : Type 0} → (X → List ℕ) → List X → List ℕ → Option X
-first_with word [] s = None
-first_with word (x ∷ xs) s = cond (same_bytes s (word x)) (Some x) (first_with word xs s)
+first_with word xs s = find (λ x. same_bytes s (word x)) xs
 
 -- a text begins with CR LF
 abbrev pub ends_here : List ℕ → Bool
@@ -39,3 +19,24 @@ ends_here s = nat_le 2 (length s) && (slice_index s 0 == 13 && slice_index s 1 =
 abbrev pub line_end : List ℕ → ℕ
 line_end [] = 0
 line_end (b ∷ s) = let n = line_end s in cond (ends_here (b ∷ s)) 0 (suc n)
+
+abbrev pub first_end : List ℕ → Option ℕ
+first_end s = cond (nat_lt (line_end s) (length s)) (Some (line_end s)) None
+
+-- the next argument of those that are left, none of them the last, of a line of `end` bytes
+abbrev pub next_piece : ℕ → Option Piece → Result Piece Refusal
+next_piece end None = Err (refusal Parts end)
+next_piece end (Some p) = Ok (front p)
+
+-- what is left behind it
+abbrev pub behind_next : Option Piece → Option Piece
+behind_next None = None
+behind_next (Some p) = rest p
+
+abbrev pub last_piece : ℕ → Option Piece → Result Piece Refusal
+last_piece end None = Err (refusal Parts end)
+last_piece end (Some p) = Ok p
+
+abbrev pub no_piece : Option Piece → Result (Unit {0}) Refusal
+no_piece None = Ok tt
+no_piece (Some p) = Err (refusal Parts p.at)

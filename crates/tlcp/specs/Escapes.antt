@@ -1,5 +1,7 @@
 -- Escapes: `%` and two hexadecimal digits stand for one byte.
 use Rattle.std.specs.Prelude.{◌≡◌, ℕ, ◌+◌, ◌-◌, ◌*◌, ◌/◌, ◌%◌, Bool, true, false, cond, ◌&&◌, List, [], ◌∷◌, ◌++◌, length, take, drop, Some, None, Ok, Err, Option, Result, ◌==◌, nat_le, slice_index}
+use Rattle.row.specs.declared.fault.Fault.TheVariants.{Escape}
+use Rattle.row.specs.declared.fault.Refusal.{Refusal}
 use Rattle.tlcp.specs.Bytes.{is_digit, is_hex, is_escaped, is_escaped_first}
 
 abbrev pub hex_value : ℕ → ℕ
@@ -38,11 +40,11 @@ unit_of s =
     (Some (slice_index s 0, drop 1 s)))
 
 -- how many bytes there are, or the place of the fault
-abbrev pub count_or : ℕ → Option ℕ → Result ℕ ℕ
+abbrev pub count_or : ℕ → Option ℕ → Result ℕ Refusal
 count_or n None = Ok n
-count_or n (Some at) = Err at
+count_or n (Some at) = Err (record { fault = Escape; place = at })
 
-abbrev pub decode_answer : Decoded → Result ℕ ℕ
+abbrev pub decode_answer : Decoded → Result ℕ Refusal
 decode_answer d = count_or (length d.bytes) d.fault
 
 -- as much of t as xs has places for, in front of what stood behind those
@@ -79,8 +81,7 @@ encoded_by p [] = []
 encoded_by p (b ∷ t) = spelled (p b) b ++ encoded_by p t
 
 abbrev pub encode_rest : List ℕ → List ℕ
-encode_rest [] = []
-encode_rest (b ∷ t) = spelled (is_escaped b) b ++ encode_rest t
+encode_rest = encoded_by is_escaped
 
 -- a text as content: its first byte is escaped in more cases than the others
 abbrev pub encode : List ℕ → List ℕ

@@ -10,3 +10,5 @@ pub mod Examples
 pub mod Written
 pub mod Said
 pub mod Dividing
+pub mod Bounds
+pub mod Holding

@@ -1,5 +1,5 @@
 -- Lines from the emulator: tags, arguments, and which bytes say which message.
-use Rattle.std.specs.Prelude.{◌≡◌, ℕ, zero, suc, ◌+◌, ◌≤◌, Bool, true, false, cond, ◌&&◌, ◌||◌, List, [], ◌∷◌, ◌++◌, length, ℤ, Some, None, Ok, Err, codes, decimal, Option, Result, ◌==◌, nat_le}
+use Rattle.std.specs.Prelude.{◌≡◌, ℕ, zero, suc, ◌+◌, ◌≤◌, Bool, true, false, cond, ◌&&◌, List, [], ◌∷◌, ◌++◌, length, ℤ, Some, None, Ok, Err, codes, decimal, find, Option, Result, ◌==◌, nat_le}
 use Rattle.std.specs.Option.{option_map}
 use Rattle.std.specs.Fmt.{signed_decimal}
 use Rattle.row.specs.Limits.{field_limit}
@@ -10,7 +10,7 @@ use Rattle.tlcp.specs.Escapes.{decoded, Decodes}
 use Rattle.tlcp.specs.Limits.{line_limit, id_limit, count_limit}
 use Rattle.tlcp.specs.Lists.{refusal}
 use Rattle.tlcp.specs.Numbers.{number_of, code_of, CodeWithin}
-use Rattle.tlcp.specs.Parts.{before, behind, place_of, Piece}
+use Rattle.tlcp.specs.Parts.{before, behind, has, place_of, Piece}
 use Rattle.tlcp.specs.declared.tag.Tag.{Tag}
 use Rattle.tlcp.specs.declared.tag.Tag.TheVariants.{U, Probe, Sync, Loop, Cons, Servname, Clientip, Reqok, Unsub, Conerr, End, Error, Eos, Subok, Ov, Conf, Reqerr, Conok}
 
@@ -40,16 +40,11 @@ word Conf = codes "CONF"
 word Reqerr = codes "REQERR"
 word Conok = codes "CONOK"
 
--- the first of some tags whose word this is
-abbrev pub first_tag : List Tag → List ℕ → Option Tag
-first_tag [] s = None
-first_tag (t ∷ ts) s = cond (same_bytes s (word t)) (Some t) (first_tag ts s)
-
 abbrev pub tags : List Tag
 tags = U ∷ Probe ∷ Sync ∷ Loop ∷ Cons ∷ Servname ∷ Clientip ∷ Reqok ∷ Unsub ∷ Conerr ∷ End ∷ Error ∷ Eos ∷ Subok ∷ Ov ∷ Conf ∷ Reqerr ∷ Conok ∷ []
 
 abbrev pub tag_of : List ℕ → Option Tag
-tag_of s = first_tag tags s
+tag_of s = find (λ t. same_bytes s (word t)) tags
 
 -- what an argument is
 pub data Sort : Type 0 where
@@ -191,8 +186,7 @@ piece_of (worded p) = p
 piece_of (listed p) = p
 
 abbrev pub has_comma : List ℕ → Bool
-has_comma [] = false
-has_comma (b ∷ s) = b == 44 || has_comma s
+has_comma = has 44
 
 -- arguments of some sorts stand side by side from the offset `at` on, each behind a comma; only in the last one may commas stand
 pub data Laid : List Sort → ℕ → List Argument → List ℕ → Type 0 where

@@ -1,6 +1,6 @@
 -- Value lists: what a list of values says of a row, and how a delta is written as one.
-use Rattle.std.specs.Prelude.{◌≡◌, ℕ, suc, ◌+◌, ◌-◌, ◌*◌, ◌<◌, ◌≤◌, Bool, true, false, cond, ◌&&◌, ◌||◌, List, [], ◌∷◌, ◌++◌, length, drop, replicate, Some, None, Ok, Err, decimal, Option, Result, ◌==◌, nat_le}
-use Rattle.std.specs.List.{flat_map, AllByRecursion}
+use Rattle.std.specs.Prelude.{◌≡◌, ℕ, suc, ◌+◌, ◌-◌, ◌*◌, ◌<◌, ◌≤◌, Bool, true, false, cond, ◌&&◌, List, [], ◌∷◌, ◌++◌, length, replicate, Some, None, Ok, Err, decimal, Option, Result, ◌==◌, nat_le}
+use Rattle.std.specs.List.{AllByRecursion}
 use Rattle.row.specs.Limits.{field_limit, text_limit}
 use Rattle.row.specs.Rows.{Change, same, becomes, null, value}
 use Rattle.row.specs.declared.fault.Fault.{Fault}
@@ -8,6 +8,7 @@ use Rattle.row.specs.declared.fault.Fault.TheVariants.{Escape, Number, Cover, Va
 use Rattle.row.specs.declared.fault.Refusal.{Refusal}
 use Rattle.tlcp.specs.Escapes.{decoded, Decodes, encode}
 use Rattle.tlcp.specs.Numbers.{number_of}
+use Rattle.tlcp.specs.Parts.{divided_by, each_behind, has, joined_by, NoneHas}
 
 abbrev pub refusal : Fault → ℕ → Refusal
 refusal f at = record { fault = f; place = at }
@@ -17,13 +18,8 @@ abbrev pub shifted : ℕ → Refusal → Refusal
 shifted n r = refusal r.fault (n + r.place)
 
 -- the values of a list: what stands between its pipes
-abbrev pub push : ℕ → List (List ℕ) → List (List ℕ)
-push b [] = (b ∷ []) ∷ []
-push b (v ∷ vs) = (b ∷ v) ∷ vs
-
 abbrev pub values : List ℕ → List (List ℕ)
-values [] = [] ∷ []
-values (b ∷ s) = let more = values s in cond (b == 124) ([] ∷ more) (push b more)
+values = divided_by 124
 
 -- what one value says: n fields same, or one change
 pub data Meant : Type 0 where
@@ -105,19 +101,17 @@ pub data Row (allowed : List ℕ → Bool) : List (List ℕ) → List Change →
 
 -- values with a pipe before each
 abbrev pub each_piped : List (List ℕ) → List ℕ
-each_piped vs = flat_map (λ v. 124 ∷ v) vs
+each_piped = each_behind 124
 
 -- values with pipes between them
 abbrev pub piped : List (List ℕ) → List ℕ
-piped vs = drop 1 (each_piped vs)
+piped = joined_by 124
 
 abbrev pub has_pipe : List ℕ → Bool
-has_pipe [] = false
-has_pipe (b ∷ v) = b == 124 || has_pipe v
+has_pipe = has 124
 
 abbrev pub NoPipes : List (List ℕ) → Type 0
-NoPipes [] = Unit {0}
-NoPipes (v ∷ vs) = (has_pipe v ≡ false) × NoPipes vs
+NoPipes = NoneHas 124
 
 -- a list spells a delta: it is values without pipes, divided by pipes, at least one, that mean the delta
 pub record Spells (allowed : List ℕ → Bool) (s : List ℕ) (d : List Change) : Type 0 where

@@ -1,5 +1,6 @@
--- Where a byte stands in a text, and what stands before and behind it.
-use Rattle.std.specs.Prelude.{ℕ, suc, ◌+◌, cond, List, [], ◌∷◌, length, take, drop, Some, None, Option, ◌==◌, nat_lt}
+-- Where a byte stands in a text, and what stands before, behind and between.
+use Rattle.std.specs.Prelude.{◌≡◌, ℕ, suc, ◌+◌, Bool, false, cond, ◌||◌, List, [], ◌∷◌, length, take, drop, Some, None, Option, ◌==◌, nat_lt}
+use Rattle.std.specs.List.{flat_map}
 
 -- the place of the first b, or the length where there is none
 abbrev pub place_of : ℕ → List ℕ → ℕ
@@ -18,3 +19,30 @@ behind b s = cond (nat_lt (place_of b s) (length s)) (Some (drop (place_of b s +
 pub record Piece : Type 0 where
   pub text : List ℕ
   pub at : ℕ
+
+-- b stands in a text
+abbrev pub has : ℕ → List ℕ → Bool
+has b [] = false
+has b (x ∷ s) = x == b || has b s
+
+-- b before the first of some texts
+abbrev pub push : ℕ → List (List ℕ) → List (List ℕ)
+push b [] = (b ∷ []) ∷ []
+push b (v ∷ vs) = (b ∷ v) ∷ vs
+
+-- what stands between the bytes c of a text
+abbrev pub divided_by : ℕ → List ℕ → List (List ℕ)
+divided_by c [] = [] ∷ []
+divided_by c (b ∷ s) = let more = divided_by c s in cond (b == c) ([] ∷ more) (push b more)
+
+-- texts with c before each
+abbrev pub each_behind : ℕ → List (List ℕ) → List ℕ
+each_behind c ts = flat_map (λ t. c ∷ t) ts
+
+-- texts with c between them
+abbrev pub joined_by : ℕ → List (List ℕ) → List ℕ
+joined_by c ts = drop 1 (each_behind c ts)
+
+abbrev pub NoneHas : ℕ → List (List ℕ) → Type 0
+NoneHas c [] = Unit {0}
+NoneHas c (t ∷ ts) = (has c t ≡ false) × NoneHas c ts

@@ -1,13 +1,10 @@
 -- What the reader's answers say.
-use Rattle.std.specs.Prelude.{◌≡◌, ℕ, ◌+◌, ◌≤◌, List, [], ◌∷◌, length, Ok, Err, Option, Result}
+use Rattle.std.specs.Prelude.{◌≡◌, ℕ, ℤ, List, [], ◌∷◌, Ok, Err, Option, Result}
 use Rattle.std.specs.Option.{option_map}
-use Rattle.std.specs.List.{AllByRecursion}
 use Rattle.row.specs.declared.fault.Refusal.{Refusal}
-use Rattle.tlcp.specs.Limits.{line_limit}
-use Rattle.tlcp.specs.Lines.{Argument, numbered, coded, worded, listed, Message, arguments_of, message_of, piece, piece_of, sorts}
+use Rattle.tlcp.specs.Lines.{Argument, numbered, coded, worded, listed, Message, arguments_of, message_of, piece, sorts}
 use Rattle.tlcp.specs.Parts.{Piece}
-use Rattle.tlcp.specs.declared.argument.Code.{Code}
-use Rattle.tlcp.specs.declared.argument.Number.{Number}
+use Rattle.tlcp.specs.declared.argument.Valued.{Valued}
 use Rattle.tlcp.specs.declared.line.Line.{Line}
 use Rattle.tlcp.specs.declared.line.Notification.{Notification}
 use Rattle.tlcp.specs.declared.line.Notification.TheVariants as n
@@ -18,19 +15,15 @@ use Rattle.tlcp.specs.declared.tag.Tag.TheVariants as t
 abbrev pub piece_in : Part → Piece
 piece_in p = piece p.bytes.now p.at
 
--- a part lies in a line
-abbrev pub InLine : Part → Type 0
-InLine p = p.at + length p.bytes.now ≤ line_limit
-
 -- what an answer says, where f says it of what was accepted
 abbrev pub on_ok : {X Y : Type 0} → (X → Y) → Result X Refusal → Result Y Refusal
 on_ok f (Ok x) = Ok (f x)
 on_ok f (Err r) = Err r
 
-abbrev pub numbering : Number → Argument
+abbrev pub numbering : Valued ℕ → Argument
 numbering n = numbered (piece_in n.part) n.value
 
-abbrev pub coding : Code → Argument
+abbrev pub coding : Valued ℤ → Argument
 coding c = coded (piece_in c.part) c.value
 
 abbrev pub wording : Part → Argument
@@ -88,7 +81,3 @@ said r = on_ok (λ l. message_in (piece_in l.tag) l.says) r
 -- r says what a line of `end` bytes with the tag t says, behind whose tag `tail` stands
 abbrev pub Tells : Tag → ℕ → Option Part → Result Notification Refusal → Type 0
 Tells t end tail r = (name : Piece) → on_ok (message_in name) r ≡ message_of t name (arguments_of (sorts t) end (option_map piece_in tail))
-
--- the arguments lie in a line
-abbrev pub AllInLine : List Argument → Type 0
-AllInLine args = AllByRecursion (λ a. (piece_of a).at + length (piece_of a).text ≤ line_limit) args

@@ -29,14 +29,13 @@ end_or at t xs = cond (fits at t xs) (Ok (at + length t)) (Err no_room)
 abbrev pub placed_or : ℕ → List ℕ → List ℕ → List ℕ
 placed_or at t xs = cond (fits at t xs) (placed at t xs) xs
 
--- the first n of xs and then t are the first r of ys
-pub record Appended (n : ℕ) (xs t : List ℕ) (r : ℕ) (ys : List ℕ) : Type 0 where
-  pub count : r ≡ n + length t
-  pub bytes : take r ys ≡ take n xs ++ t
-
 -- what a field takes at most: a pipe, and a text whose bytes are all escaped
 abbrev pub field_room : ℕ
 field_room = 3 * text_limit + 1
+
+-- what the values of a row take at most, each behind a pipe
+abbrev pub piped_limit : ℕ
+piped_limit = field_room * field_limit
 
 -- the value of a change, if it has one of its own
 abbrev pub values_of : rows.Change → List (List ℕ)

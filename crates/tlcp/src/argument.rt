@@ -1,60 +1,69 @@
 // An argument of a line, read as what its place asks for.
-ghost use Rattle.std.specs.Prelude.{◌≡◌};
-ghost use Rattle.tlcp.specs.Lines.{code, number, read_argument, text};
-ghost use Rattle.tlcp.specs.Said.{InLine, coding, numbering, on_ok, piece_in, wording};
+ghost use Rattle.std.specs.Prelude.{◌≡◌, IfSome};
+ghost use Rattle.std.specs.Option.{option_map};
+ghost use Rattle.tlcp.specs.Lines.{code, front, number, read_argument, rest, text};
+ghost use Rattle.tlcp.specs.Said.{coding, numbering, on_ok, piece_in, wording};
 
 use crate::escape::decode;
-use crate::number::{read_code, read_number};
+use crate::number::{Limits, read_code, read_number};
 use crate::part::Part;
+use crate::text::split;
 use row::{Fault, Refusal};
 
-// A part that writes a number, and that number.
+// A part of a line, and the value that it writes.
 #[derive(Clone, Copy)]
-pub struct Number<'a> {
+pub struct Valued<'a, T> {
     pub part: Part<'a>,
-    pub value: u32,
+    pub value: T,
 }
 
-// A part that writes a code, and that code.
-#[derive(Clone, Copy)]
-pub struct Code<'a> {
-    pub part: Part<'a>,
-    pub value: i32,
-}
+pub type Number<'a> = Valued<'a, u32>;
 
-pub(crate) fn number_in(part: Part<'_>, low: u32, high: u32) -> Result<Number<'_>, Refusal>
-    ensures { on_ok numbering result ≡ read_argument (number low high) (piece_in part.entry) }
-{
-    match read_number(part.bytes, low, high) {
-        Some(value) => Ok(Number { part, value }),
-        None => Err(Refusal {
-            fault: Fault::Number,
-            place: part.at,
-        }),
+pub type Code<'a> = Valued<'a, i32>;
+
+impl<'a> Part<'a> {
+    // What stands before the first comma, and what stands behind it.
+    pub(crate) fn cut(self) -> (Part<'a>, Option<Part<'a>>)
+        ensures front { piece_in result.0 ≡ front (piece_in self.entry) }
+        ensures rest { option_map piece_in result.1 ≡ rest (piece_in self.entry) }
+    {
+        let (front, rest) = split(self.bytes, b',');
+        let front = Part {
+            bytes: front,
+            at: self.at,
+        };
+        match rest {
+            Some(rest) => {
+                let at = self.at + (front.bytes.len() + 1);
+                (front, Some(Part { bytes: rest, at }))
+            }
+            None => (front, None),
+        }
     }
-}
 
-pub(crate) fn code_in(part: Part<'_>) -> Result<Code<'_>, Refusal>
-    ensures { on_ok coding result ≡ read_argument code (piece_in part.entry) }
-{
-    match read_code(part.bytes) {
-        Some(value) => Ok(Code { part, value }),
-        None => Err(Refusal {
-            fault: Fault::Number,
-            place: part.at,
-        }),
+    pub(crate) fn number(self, limits: Limits) -> Result<Number<'a>, Refusal>
+        ensures { on_ok numbering result ≡ read_argument (number limits.low limits.high) (piece_in self.entry) }
+    {
+        let value = read_number(self.bytes, limits).ok_or(Fault::Number.at(self.at))?;
+        Ok(Valued { part: self, value })
     }
-}
 
-pub(crate) fn text_in(part: Part<'_>) -> Result<Part<'_>, Refusal>
-    requires { InLine part }
-    ensures { on_ok wording result ≡ read_argument text (piece_in part.entry) }
-{
-    match decode(part.bytes, &mut []) {
-        Ok(_) => Ok(part),
-        Err(place) => Err(Refusal {
-            fault: Fault::Escape,
-            place: part.at + place,
-        }),
+    pub(crate) fn code(self) -> Result<Code<'a>, Refusal>
+        ensures { on_ok coding result ≡ read_argument code (piece_in self.entry) }
+    {
+        let value = read_code(self.bytes).ok_or(Fault::Number.at(self.at))?;
+        Ok(Valued { part: self, value })
+    }
+
+    pub(crate) fn text(self) -> Result<Part<'a>, Refusal>
+        ensures { on_ok wording result ≡ read_argument text (piece_in self.entry) }
+    {
+        match decode(self.bytes, &mut []) {
+            Ok(_) => Ok(self),
+            Err(refusal) => Err(Refusal {
+                place: self.at + refusal.place,
+                ..refusal
+            }),
+        }
     }
 }

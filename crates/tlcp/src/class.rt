@@ -3,7 +3,7 @@ ghost use Rattle.std.specs.Prelude.{◌≡◌};
 ghost use Rattle.row.specs.Texts.{every};
 ghost use Rattle.tlcp.specs.Bytes.{bit_of, in_class};
 
-// A class is one bit of a table's entries.
+// kept: numbers, since a class is one bit of a constant table's entries, by the project's rule
 #[derive(Clone, Copy)]
 pub enum Class {
     Digit = 1,
@@ -53,10 +53,5 @@ pub fn is_of(b: u8, class: Class) -> bool
 pub fn all_of(s: &[u8], class: Class) -> bool
     ensures { result ≡ every (in_class class) s.now }
 {
-    for b in s {
-        if !is_of(*b, class) {
-            return false;
-        }
-    }
-    true
+    s.iter().all(|b| is_of(*b, class))
 }

@@ -5,8 +5,8 @@ ghost use Rattle.tlcp.specs.Escapes.{encoded_by, hex_digit, spelled};
 ghost use Rattle.tlcp.specs.Written.{end_or, placed_or};
 
 use crate::class::{Class, is_of};
-use crate::write::{NO_ROOM, put};
-use row::Refusal;
+use crate::write::put;
+use row::{Fault, Refusal};
 
 // The capital hexadecimal digit of a number below 16.
 pub(crate) fn hex_digit(n: u8) -> u8
@@ -64,7 +64,7 @@ pub fn put_escaped(out: &mut [u8], at: usize, text: &[u8], class: Class) -> Resu
     ensures bytes { out.new ≡ placed_or at (encoded_by (in_class class) text.now) out.old }
 {
     if at > out.len() || !is_within(text, class, out.len() - at) {
-        return Err(NO_ROOM);
+        return Err(Fault::Length.at(0));
     }
     let mut end = at;
     for b in text {

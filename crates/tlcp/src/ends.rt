@@ -1,26 +1,23 @@
 // The ends of lines in a text.
-ghost use Rattle.std.specs.Prelude.{◌≡◌, ◌+◌, ◌<◌, ◌≤◌, length};
-ghost use Rattle.tlcp.specs.Dividing.{ends_here, line_end};
+ghost use Rattle.std.specs.Prelude.{◌≡◌, ◌+◌, ◌≤◌, length, IfSome};
+ghost use Rattle.tlcp.specs.Dividing.{ends_here, first_end};
 
 fn ends_here(s: &[u8]) -> bool
     ensures { result ≡ ends_here s.now }
 {
-    match s {
-        [b'\r', b'\n', ..] => true,
-        _ => false,
-    }
+    matches!(s, [b'\r', b'\n', ..])
 }
 
-// The place of the first CR LF, or the length where there is none.
-pub fn find_end(s: &[u8]) -> usize
-    ensures value { result ≡ line_end s.now }
-    ensures within { result ≤ length s.now }
-    ensures both { result < length s.now → result + 2 ≤ length s.now }
+// The place of the first CR LF, if there is one.
+pub fn find_end(s: &[u8]) -> Option<usize>
+    ensures value { result ≡ first_end s.now }
+    ensures within { IfSome result (λ end. end + 2 ≤ length s.now) }
 {
+    // kept: of windows(2).position(..) and of (0..len).find(..) the proof did not close
     for i in 0..s.len() {
         if ends_here(&s[i..]) {
-            return i;
+            return Some(i);
         }
     }
-    s.len()
+    None
 }

@@ -5,6 +5,7 @@ ghost use Rattle.tlcp.specs.Bytes.{is_hex};
 ghost use Rattle.tlcp.specs.Escapes.{hex_value, unit_of, decoded, decode_answer, overlaid};
 
 use crate::class::{Class, is_of};
+use row::{Fault, Refusal};
 
 // The value of a hexadecimal digit of either case.
 fn hex_value(b: u8) -> u8
@@ -48,18 +49,19 @@ fn unit(s: &[u8]) -> Option<(u8, &[u8])>
     }
 }
 
-// Decodes `s` into `out`, as much as there is room for. Answers how many bytes `s` stands for, or the
-// place of its first `%` without two hexadecimal digits; `out` then has what comes before that.
-pub fn decode(s: &[u8], out: &mut [u8]) -> Result<usize, usize>
+// Decodes `s` into `out`, as much as there is room for. Answers how many bytes `s` stands for.
+// Refuses the first `%` without two hexadecimal digits; `out` then has what comes before that.
+pub fn decode(s: &[u8], out: &mut [u8]) -> Result<usize, Refusal>
     ensures answer { result ≡ decode_answer (decoded s.now) }
     ensures bytes { out.new ≡ overlaid (decoded s.now).bytes out.old }
-    ensures within { MatchResult result (λ n. n ≤ length s.now) (λ at. at < length s.now) }
+    ensures within { MatchResult result (λ n. n ≤ length s.now) (λ r. r.place < length s.now) }
 {
     let mut left = s;
+    // kept: counted by hand, since the count is the answer, also past the room
     let mut n = 0;
-    while left.len() > 0 {
+    while !left.is_empty() {
         let Some((b, rest)) = unit(left) else {
-            return Err(s.len() - left.len());
+            return Err(Fault::Escape.at(s.len() - left.len()));
         };
         if n < out.len() {
             out[n] = b;

@@ -1,9 +1,11 @@
 // The text of TLCP 2.0.0: byte classes, escapes, numbers, value lists and lines.
 #![tactic(auto)]
 
+mod append;
 mod argument;
+mod arguments;
+mod bounded;
 mod class;
-mod divide;
 mod encode;
 mod ends;
 mod escape;
@@ -15,10 +17,13 @@ mod number;
 mod part;
 mod shape;
 mod tag;
+mod text;
 mod theorems;
+mod word;
 mod write;
 
-pub use argument::{Code, Number};
+pub use argument::{Code, Number, Valued};
+pub use bounded::Bounded;
 pub use class::{Class, all_of, is_of};
 pub use encode::{hex_digits, put_escaped};
 pub use ends::find_end;
@@ -27,9 +32,10 @@ pub use examples::{logic_examples, worked_examples};
 pub use line::{LINE_LIMIT, Line, Notification, read_line};
 pub use list::{UNCOVERED, read_list};
 pub use list_write::{LIST_LIMIT, write_list};
-pub use number::{CODE_LIMIT, read_code, read_number};
-pub use part::{Part, find, is_word, split};
-pub use shape::{COUNT_LIMIT, ID_LIMIT};
+pub use number::{CODE_LIMIT, COUNT_LIMIT, ID_LIMIT, Limits, read_code, read_number};
+pub use part::Part;
 pub use tag::Tag;
+pub use text::{find, is_word, split};
 pub use theorems::theorems_on_texts;
+pub use word::{Worded, first_with};
 pub use write::{put, write_number};

@@ -1,14 +1,11 @@
 // Lines from the emulator.
-ghost use Rattle.std.specs.Prelude.{◌≡◌, IfSome, IfOk};
+ghost use Rattle.std.specs.Prelude.{◌≡◌};
 ghost use Rattle.tlcp.specs.Lines.{ReadsSaid, read_line};
-ghost use Rattle.tlcp.specs.Said.{AllInLine, InLine, Tells, arguments_in, said};
+ghost use Rattle.tlcp.specs.Said.{said};
 
 use crate::argument::{Code, Number};
-use crate::part::{Part, cut};
-use crate::shape::{
-    COUNT_LIMIT, ID_LIMIT, code_and_text, conf, conok, eos, one_number, one_text, ov, probe,
-    reqerr, subok, update,
-};
+use crate::arguments::Arguments;
+use crate::part::Part;
 use crate::tag::Tag;
 use row::{Fault, Refusal};
 
@@ -73,64 +70,23 @@ pub struct Line<'a> {
     pub says: Notification<'a>,
 }
 
-// What a line with this tag says, by what stands behind the tag.
-fn tagged(tag: Tag, tail: Option<Part<'_>>, end: usize) -> Result<Notification<'_>, Refusal>
-    requires { IfSome tail InLine }
-    ensures { Tells tag end tail.entry result }
-{
-    match tag {
-        Tag::U => update(tail, end),
-        Tag::Probe => probe(tail),
-        Tag::Sync => Ok(Notification::Sync(one_number(tail, end, 0, COUNT_LIMIT)?)),
-        Tag::Loop => Ok(Notification::Loop(one_number(tail, end, 0, COUNT_LIMIT)?)),
-        Tag::Cons => Ok(Notification::Cons(one_text(tail, end)?)),
-        Tag::Servname => Ok(Notification::Servname(one_text(tail, end)?)),
-        Tag::Clientip => Ok(Notification::Clientip(one_text(tail, end)?)),
-        Tag::Reqok => Ok(Notification::Reqok(one_text(tail, end)?)),
-        Tag::Unsub => Ok(Notification::Unsub(one_number(tail, end, 1, ID_LIMIT)?)),
-        Tag::Conerr => {
-            let (code, message) = code_and_text(tail, end)?;
-            Ok(Notification::Conerr(code, message))
-        }
-        Tag::End => {
-            let (code, message) = code_and_text(tail, end)?;
-            Ok(Notification::End(code, message))
-        }
-        Tag::Error => {
-            let (code, message) = code_and_text(tail, end)?;
-            Ok(Notification::Error(code, message))
-        }
-        Tag::Eos => eos(tail, end),
-        Tag::Subok => subok(tail, end),
-        Tag::Ov => ov(tail, end),
-        Tag::Conf => conf(tail, end),
-        Tag::Reqerr => reqerr(tail, end),
-        Tag::Conok => conok(tail, end),
-    }
-}
-
 // Reads a line, given without its end. Refuses one that is too long, has an unknown tag, too few
 // arguments or too many, or an argument that is not what its place asks for.
 pub fn read_line(line: &[u8]) -> Result<Line<'_>, Refusal>
     ensures answer { said result ≡ read_line line.now }
-    ensures within { IfOk result (λ l. AllInLine (arguments_in l.says)) }
     ensures said { ReadsSaid }
 {
     if line.len() > LINE_LIMIT {
-        return Err(Refusal {
-            fault: Fault::Length,
-            place: 0,
-        });
+        return Err(Fault::Length.at(0));
     }
-    let (name, tail) = cut(Part { bytes: line, at: 0 });
-    let Some(tag) = Tag::of(name.bytes) else {
-        return Err(Refusal {
-            fault: Fault::Unknown,
-            place: 0,
-        });
+    let (name, left) = Part { bytes: line, at: 0 }.cut();
+    let tag = Tag::of(name.bytes).ok_or(Fault::Unknown.at(0))?;
+    let arguments = Arguments {
+        left,
+        end: line.len(),
     };
     Ok(Line {
         tag: name,
-        says: tagged(tag, tail, line.len())?,
+        says: arguments.says(tag)?,
     })
 }

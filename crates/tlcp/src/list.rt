@@ -6,8 +6,8 @@ ghost use Rattle.tlcp.specs.Held.{size_or, slot_after, held_delta, answer_of};
 ghost use Rattle.tlcp.specs.Lists.{uncovered, values, read_text, read_content, read_value, read_values, read_list, ReadsSpelled};
 
 use crate::escape::decode;
-use crate::number::read_number;
-use crate::part::{find, split};
+use crate::number::{Limits, read_number};
+use crate::text::{find, split};
 use row::{Change, FIELD_LIMIT, Fault, Mark, Refusal, TEXT_LIMIT, Value, blank};
 
 // The row is not covered exactly: the whole list is at fault.
@@ -22,19 +22,26 @@ fn read_text<R: Value>(text: &[u8], slot: &mut Change<R>) -> Result<usize, Refus
     ensures change { slot.new ≡ slot_after R.kind (read_text R.kind.allowed text.now) slot.old }
     ensures within { IfErr result (λ e. e.place ≡ 0) }
 {
-    match R::read(text) {
-        Some(raw) => {
-            *slot = Change {
-                mark: Mark::Value,
-                raw,
-            };
-            Ok(1)
-        }
-        None => Err(Refusal {
-            fault: Fault::Value,
-            place: 0,
-        }),
+    let raw = R::read(text).ok_or(Fault::Value.at(0))?;
+    *slot = Change {
+        mark: Mark::Value,
+        raw,
+    };
+    Ok(1)
+}
+
+// A value with escapes.
+fn read_escaped<R: Value>(value: &[u8], slot: &mut Change<R>) -> Result<usize, Refusal>
+    ensures answer { result ≡ size_or (read_content R.kind.allowed value.now) }
+    ensures change { slot.new ≡ slot_after R.kind (read_content R.kind.allowed value.now) slot.old }
+    ensures within { IfErr result (λ e. e.place ≤ length value.now) }
+{
+    let mut text = [0u8; TEXT_LIMIT];
+    let len = decode(value, &mut text)?;
+    if len > TEXT_LIMIT {
+        return Err(Fault::Value.at(0));
     }
+    read_text(&text[..len], slot)
 }
 
 // A value that is neither empty nor one of the marks.
@@ -43,21 +50,10 @@ fn read_content<R: Value>(value: &[u8], slot: &mut Change<R>) -> Result<usize, R
     ensures change { slot.new ≡ slot_after R.kind (read_content R.kind.allowed value.now) slot.old }
     ensures within { IfErr result (λ e. e.place ≤ length value.now) }
 {
-    // most values have no escape, and need no buffer
-    if find(value, b'%') == value.len() {
-        return read_text(value, slot);
-    }
-    let mut text = [0u8; TEXT_LIMIT];
-    match decode(value, &mut text) {
-        Err(place) => Err(Refusal {
-            fault: Fault::Escape,
-            place,
-        }),
-        Ok(n) if n <= TEXT_LIMIT => read_text(&text[0..n], slot),
-        Ok(_) => Err(Refusal {
-            fault: Fault::Value,
-            place: 0,
-        }),
+    match find(value, b'%') {
+        Some(_) => read_escaped(value, slot),
+        // most values have no escape, and need no buffer
+        None => read_text(value, slot),
     }
 }
 
@@ -70,13 +66,10 @@ fn read_value<R: Value>(value: &[u8], slot: &mut Change<R>) -> Result<usize, Ref
 {
     match value {
         [] => Ok(1),
-        [b'^', digits @ ..] => match read_number(digits, 1, FIELD_LIMIT as u32) {
-            Some(n) => Ok(n as usize),
-            None => Err(Refusal {
-                fault: Fault::Number,
-                place: 0,
-            }),
-        },
+        [b'^', digits @ ..] => {
+            let same = read_number(digits, Limits::FIELDS).ok_or(Fault::Number.at(0))?;
+            Ok(same as usize)
+        }
         [b'#'] => {
             *slot = Change {
                 mark: Mark::Null,
@@ -96,6 +89,7 @@ fn read_values<R: Value>(list: &[u8], fields: usize, delta: &mut [Change<R>]) ->
     ensures changes { is_ok result ≡ true → delta.new ≡ held_delta R.kind (read_values R.kind.allowed 0 fields (values list.now)) }
     ensures within { IfErr result (λ e. e.place ≤ length list.now) }
 {
+    // kept: a value covers one field or several, so no iterator steps through the places
     let mut covered = 0;
     let mut left = list;
     while covered < fields {
@@ -103,10 +97,8 @@ fn read_values<R: Value>(list: &[u8], fields: usize, delta: &mut [Change<R>]) ->
         let more = match read_value(value, &mut delta[covered]) {
             Ok(more) => more,
             Err(refusal) => {
-                return Err(Refusal {
-                    fault: refusal.fault,
-                    place: list.len() - left.len() + refusal.place,
-                });
+                let place = list.len() - left.len() + refusal.place;
+                return Err(Refusal { place, ..refusal });
             }
         };
         if more > fields - covered {
@@ -144,11 +136,9 @@ pub fn read_list<R: Value>(
     if fields > FIELD_LIMIT {
         return Err(UNCOVERED);
     }
-    match read_values(list, fields, delta) {
-        Ok(()) => Ok(()),
-        Err(refusal) => {
-            blank(delta);
-            Err(refusal)
-        }
+    let read = read_values(list, fields, delta);
+    if read.is_err() {
+        blank(delta);
     }
+    read
 }

@@ -1,124 +1,90 @@
 // Value lists: writing. A list is first written into a buffer, with a pipe before each value.
-ghost use Rattle.std.specs.Prelude.{◌≡◌, ◌+◌, ◌*◌, ◌<◌, ◌≤◌, map, length};
+ghost use Rattle.std.specs.Prelude.{◌≡◌, ◌+◌, ◌*◌, ◌≤◌, map, length, Ok};
 ghost use Rattle.row.specs.Limits.{field_limit, text_limit};
 ghost use Rattle.row.specs.Records.{change_of};
-ghost use Rattle.tlcp.specs.Bytes.{in_class};
-ghost use Rattle.tlcp.specs.Escapes.{hex_digit, spelled, encode_rest};
+ghost use Rattle.tlcp.specs.Bounds.{Adds, text_of};
 ghost use Rattle.tlcp.specs.Lists.{each_piped, run_values, text_value, written_values};
-ghost use Rattle.tlcp.specs.Written.{Appended, field_room, values_of, list_answer, list_placed, ReadBack};
+ghost use Rattle.tlcp.specs.Said.{on_ok};
+ghost use Rattle.tlcp.specs.Written.{field_room, piped_limit, values_of, list_answer, list_placed, ReadBack};
 
-use crate::class::{Class, is_of};
-use crate::encode::hex_digit;
+use crate::bounded::Bounded;
+use crate::class::Class;
 use crate::list::UNCOVERED;
-use crate::write::{put, write_number};
+use crate::write::put;
 use row::{Change, FIELD_LIMIT, Mark, Refusal, TEXT_LIMIT, Value};
 
-// The longest list: for each field a pipe and a text whose bytes are all escaped, and no pipe before the first.
+// For each field a pipe and a text whose bytes are all escaped.
+const PIPED_LIMIT: usize = (3 * TEXT_LIMIT + 1) * FIELD_LIMIT;
+
+// The longest list: no pipe stands before the first value.
 pub const LIST_LIMIT: usize = (3 * TEXT_LIMIT + 1) * FIELD_LIMIT - 1;
 
-// Writes `bytes` behind the first `n` of the buffer, and answers how many there are then.
-fn append(out: &mut [u8], n: usize, bytes: &[u8]) -> usize
-    requires { n + length bytes.now ≤ length out.old }
-    ensures { Appended n out.old bytes.now result out.new }
-{
-    let end = n + bytes.len();
-    out[n..end].copy_from_slice(bytes);
-    end
-}
-
-// A byte of a text, with an escape where it is of the class.
-fn append_byte(out: &mut [u8], n: usize, b: u8, class: Class) -> usize
-    requires { n + 3 ≤ length out.old }
-    ensures { Appended n out.old (spelled (in_class class b) b) result out.new }
-{
-    if is_of(b, class) {
-        append(out, n, &[b'%', hex_digit(b / 16), hex_digit(b % 16)])
-    } else {
-        append(out, n, &[b])
-    }
-}
-
-// What stands behind the first byte of a text.
-fn append_rest(out: &mut [u8], n: usize, text: &[u8]) -> usize
-    requires { n + 3 * length text.now ≤ length out.old }
-    ensures { Appended n out.old (encode_rest text.now) result out.new }
-{
-    let mut end = n;
-    for b in text {
-        end = append_byte(out, end, *b, Class::Escaped);
-    }
-    end
-}
+type Piped = Bounded<PIPED_LIMIT>;
 
 // A text as a value.
-fn append_text(out: &mut [u8], n: usize, text: &[u8]) -> usize
+fn put_text(list: &mut Piped, text: &[u8]) -> Result<(), Refusal>
     requires short { length text.now ≤ text_limit }
-    requires room { n + 3 * text_limit ≤ length out.old }
-    ensures { Appended n out.old (text_value text.now) result out.new }
+    requires room { length (text_of list.old) + 3 * text_limit ≤ piped_limit }
+    ensures { Adds (text_of list.old) (text_value text.now) result (text_of list.new) }
 {
     match text {
-        [] => append(out, n, b"$"),
+        [] => list.put(b"$"),
         [first, rest @ ..] => {
-            let end = append_byte(out, n, *first, Class::EscapedFirst);
-            append_rest(out, end, rest)
+            list.put_escaped(&[*first], Class::EscapedFirst)?;
+            list.put_escaped(rest, Class::Escaped)
         }
     }
 }
 
 // A run of same, each value behind a pipe.
-fn append_run(out: &mut [u8], n: usize, run: usize) -> usize
+fn put_run(list: &mut Piped, run: usize) -> Result<(), Refusal>
     requires few { run ≤ field_limit }
-    requires room { n + field_room * run ≤ length out.old }
-    ensures { Appended n out.old (each_piped (run_values run)) result out.new }
+    requires room { length (text_of list.old) + field_room * run ≤ piped_limit }
+    ensures { Adds (text_of list.old) (each_piped (run_values run)) result (text_of list.new) }
 {
     if run <= 3 {
         let pipes = [b'|'; 3];
-        return append(out, n, &pipes[0..run]);
+        return list.put(&pipes[..run]);
     }
-    let end = append(out, n, b"|^");
-    match write_number(out, end, run as u64) {
-        Ok(last) => last,
-        Err(_) => unreachable(),
-    }
+    list.put(b"|^")?;
+    list.put_number(run as u64)
 }
 
 // The value of a change, behind a pipe. One that is same has none of its own.
-fn append_change<R: Value>(out: &mut [u8], n: usize, change: &Change<R>) -> usize
-    requires { n + field_room ≤ length out.old }
-    ensures { Appended n out.old (each_piped (values_of (change_of R.kind change.now))) result out.new }
+fn put_change<R: Value>(list: &mut Piped, change: &Change<R>) -> Result<(), Refusal>
+    requires { length (text_of list.old) + field_room ≤ piped_limit }
+    ensures { Adds (text_of list.old) (each_piped (values_of (change_of R.kind change.now))) result (text_of list.new) }
 {
     match change.mark {
-        Mark::Same => n,
-        Mark::Null => append(out, n, b"|#"),
+        Mark::Same => Ok(()),
+        Mark::Null => list.put(b"|#"),
         Mark::Value => {
             let mut text = [0u8; TEXT_LIMIT];
             let len = change.raw.write(&mut text);
-            let end = append(out, n, b"|");
-            append_text(out, end, &text[0..len])
+            list.put(b"|")?;
+            put_text(list, &text[..len])
         }
     }
 }
 
-// The values of a delta, each behind a pipe, from the start of the buffer on.
-fn append_values<R: Value>(out: &mut [u8], delta: &[Change<R>]) -> usize
-    requires few { length delta.now ≤ field_limit }
-    requires room { field_room * field_limit ≤ length out.old }
-    ensures values { Appended 0 out.old (each_piped (written_values 0 (map (change_of R.kind) delta.now))) result out.new }
-    ensures bound { result ≤ field_room * field_limit }
+// The values of a delta, each behind a pipe.
+fn piped<R: Value>(delta: &[Change<R>]) -> Result<Piped, Refusal>
+    requires { length delta.now ≤ field_limit }
+    ensures { on_ok text_of result ≡ Ok (each_piped (written_values 0 (map (change_of R.kind) delta.now))) }
 {
-    let mut end = 0;
+    let mut list = Piped::new();
     let mut run = 0;
     for change in delta {
-        match change.mark {
-            Mark::Same => run += 1,
-            Mark::Null | Mark::Value => {
-                end = append_run(out, end, run);
-                end = append_change(out, end, change);
-                run = 0;
-            }
+        if change.is_same() {
+            run += 1;
+        } else {
+            put_run(&mut list, run)?;
+            put_change(&mut list, change)?;
+            run = 0;
         }
     }
-    append_run(out, end, run)
+    put_run(&mut list, run)?;
+    Ok(list)
 }
 
 // Writes the changes of the first fields of a delta as a list from the place `at` on, if it fits, and answers the place behind it.
@@ -138,7 +104,6 @@ pub fn write_list<R: Value>(
     if fields == 0 || fields > FIELD_LIMIT {
         return Err(UNCOVERED);
     }
-    let mut list = [0u8; LIST_LIMIT + 1];
-    let end = append_values(&mut list, &delta[0..fields]);
-    put(out, at, &list[1..end])
+    let list = piped(&delta[..fields])?;
+    put(out, at, &list.text()[1..])
 }

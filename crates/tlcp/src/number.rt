@@ -1,11 +1,62 @@
 // Numbers in decimal, without sign or leading zero, and codes, which may be negative.
 ghost use Rattle.std.specs.Prelude.{◌≡◌, ℕ, ◌≤◌, ◌||◌, length, ℤ, IfSome, ◌==◌};
 ghost use Rattle.tlcp.specs.Numbers.{leading_zero, number_of, code_of};
+ghost use Rattle.tlcp.specs.Holding.{hold};
 
 use crate::class::{Class, is_of};
+use row::FIELD_LIMIT;
+
+// The highest subscription ID.
+pub const ID_LIMIT: u32 = 9999;
+
+// The highest count.
+pub const COUNT_LIMIT: u32 = 999_999_999;
 
 // The largest magnitude of a code.
 pub const CODE_LIMIT: u32 = 999_999;
+
+// The numbers that a place takes: from `low` to `high`.
+#[derive(Clone, Copy)]
+pub struct Limits {
+    pub low: u32,
+    pub high: u32,
+}
+
+impl Limits {
+    pub const ID: Limits = Limits {
+        low: 1,
+        high: ID_LIMIT,
+    };
+    // an item, and how many there are
+    pub const SINGLE: Limits = Limits { low: 1, high: 1 };
+
+    pub const FIELDS: Limits = Limits {
+        low: 1,
+        high: FIELD_LIMIT as u32,
+    };
+
+    pub const COUNT: Limits = Limits {
+        low: 0,
+        high: COUNT_LIMIT,
+    };
+
+    pub fn hold(self, n: u32) -> bool
+        ensures { result ≡ hold self n }
+    {
+        self.low <= n && n <= self.high
+    }
+}
+
+// The magnitudes of the codes below zero, and of the others.
+const BELOW_ZERO: Limits = Limits {
+    low: 1,
+    high: CODE_LIMIT,
+};
+
+const FROM_ZERO: Limits = Limits {
+    low: 0,
+    high: CODE_LIMIT,
+};
 
 // Empty, or with a zero before other digits.
 fn is_misshapen(s: &[u8]) -> bool
@@ -17,14 +68,15 @@ fn is_misshapen(s: &[u8]) -> bool
     }
 }
 
-// The number that `s` writes, if it is from `low` to `high`.
-pub fn read_number(s: &[u8], low: u32, high: u32) -> Option<u32>
-    ensures value { result ≡ number_of low high s.now }
-    ensures bound { IfSome result (λ n. (low ≤ n) × (n ≤ high)) }
+// The number that `s` writes, if it is within the limits.
+pub fn read_number(s: &[u8], limits: Limits) -> Option<u32>
+    ensures value { result ≡ number_of limits.low limits.high s.now }
+    ensures bound { IfSome result (λ n. (limits.low ≤ n) × (n ≤ limits.high)) }
 {
     if is_misshapen(s) {
         return None;
     }
+    let Limits { low, high } = limits;
     let mut value = 0u64;
     for b in s {
         if !is_of(*b, Class::Digit) {
@@ -47,13 +99,7 @@ pub fn read_code(s: &[u8]) -> Option<i32>
     ensures { result ≡ code_of s.now }
 {
     match s {
-        [b'-', digits @ ..] => match read_number(digits, 1, CODE_LIMIT) {
-            Some(n) => Some(-(n as i32)),
-            None => None,
-        },
-        _ => match read_number(s, 0, CODE_LIMIT) {
-            Some(n) => Some(n as i32),
-            None => None,
-        },
+        [b'-', digits @ ..] => read_number(digits, BELOW_ZERO).map(|n| -(n as i32)),
+        _ => read_number(s, FROM_ZERO).map(|n| n as i32),
     }
 }

@@ -1,144 +1,167 @@
-// The arguments of a line, by the shapes that tags ask for.
-ghost use Rattle.std.specs.Prelude.{◌≡◌, ℕ, [], ◌∷◌, IfSome};
+// What lines say, by the shapes that tags ask for.
+ghost use Rattle.std.specs.Prelude.{◌≡◌, [], ◌∷◌};
 ghost use Rattle.std.specs.Option.{option_map};
-ghost use Rattle.tlcp.specs.Lines.{arguments_of, code, number, text};
-ghost use Rattle.tlcp.specs.Said.{InLine, Tells, coding, numbering, on_ok, piece_in, wording};
+ghost use Rattle.tlcp.specs.Lines.{arguments_of, code, read_arguments};
+ghost use Rattle.tlcp.specs.Lines as lines;
+ghost use Rattle.tlcp.specs.Said.{Tells, coding, on_ok, piece_in, wording};
 
-use crate::argument::{Code, Number, code_in, number_in, text_in};
-use crate::divide::{four, one, three, two};
+use crate::argument::Code;
+use crate::arguments::Arguments;
 use crate::line::Notification;
+use crate::number::Limits;
 use crate::part::Part;
 use crate::tag::Tag;
-use row::{FIELD_LIMIT, Fault, Refusal};
+use row::Refusal;
 
-// The highest subscription ID.
-pub const ID_LIMIT: u32 = 9999;
-
-// The highest count.
-pub const COUNT_LIMIT: u32 = 999_999_999;
-
-pub(crate) fn one_number(
-    tail: Option<Part<'_>>,
-    end: usize,
-    low: u32,
-    high: u32,
-) -> Result<Number<'_>, Refusal>
-    requires { IfSome tail InLine }
-    ensures { on_ok (λ n. numbering n ∷ []) result ≡ arguments_of (number low high ∷ []) end (option_map piece_in tail.entry) }
-{
-    number_in(one(tail, end)?, low, high)
-}
-
-pub(crate) fn one_text(tail: Option<Part<'_>>, end: usize) -> Result<Part<'_>, Refusal>
-    requires { IfSome tail InLine }
-    ensures { on_ok (λ p. wording p ∷ []) result ≡ arguments_of (text ∷ []) end (option_map piece_in tail.entry) }
-{
-    text_in(one(tail, end)?)
-}
-
-pub(crate) fn code_and_text(
-    tail: Option<Part<'_>>,
-    end: usize,
-) -> Result<(Code<'_>, Part<'_>), Refusal>
-    requires { IfSome tail InLine }
-    ensures { on_ok (λ a. coding a.0 ∷ wording a.1 ∷ []) result ≡ arguments_of (code ∷ text ∷ []) end (option_map piece_in tail.entry) }
-{
-    let (first, second) = two(tail, end)?;
-    Ok((code_in(first)?, text_in(second)?))
-}
-
-pub(crate) fn probe(tail: Option<Part<'_>>) -> Result<Notification<'_>, Refusal>
-    ensures { (end : ℕ) → Tells Tag.Probe end tail.entry result }
-{
-    match tail {
-        None => Ok(Notification::Probe),
-        Some(part) => Err(Refusal {
-            fault: Fault::Parts,
-            place: part.at,
-        }),
+impl<'a> Part<'a> {
+    fn code_and_text(self, text: Part<'a>) -> Result<(Code<'a>, Part<'a>), Refusal>
+        ensures { on_ok (λ a. coding a.0 ∷ wording a.1 ∷ []) result ≡ read_arguments (code ∷ lines.text ∷ []) (piece_in self.entry ∷ piece_in text.entry ∷ []) }
+    {
+        Ok((self.code()?, text.text()?))
     }
 }
 
-pub(crate) fn eos(tail: Option<Part<'_>>, end: usize) -> Result<Notification<'_>, Refusal>
-    requires { IfSome tail InLine }
-    ensures { Tells Tag.Eos end tail.entry result }
-{
-    let (id, item) = two(tail, end)?;
-    Ok(Notification::Eos {
-        id: number_in(id, 1, ID_LIMIT)?,
-        item: number_in(item, 1, 1)?,
-    })
-}
+impl<'a> Arguments<'a> {
+    fn code_and_text(mut self) -> Result<(Code<'a>, Part<'a>), Refusal>
+        ensures { on_ok (λ a. coding a.0 ∷ wording a.1 ∷ []) result ≡ arguments_of (code ∷ lines.text ∷ []) self.entry.end (option_map piece_in self.entry.left) }
+    {
+        let number = self.next()?;
+        let text = self.last()?;
+        number.code_and_text(text)
+    }
 
-pub(crate) fn subok(tail: Option<Part<'_>>, end: usize) -> Result<Notification<'_>, Refusal>
-    requires { IfSome tail InLine }
-    ensures { Tells Tag.Subok end tail.entry result }
-{
-    let (id, items, fields) = three(tail, end)?;
-    Ok(Notification::Subok {
-        id: number_in(id, 1, ID_LIMIT)?,
-        items: number_in(items, 1, 1)?,
-        fields: number_in(fields, 1, FIELD_LIMIT as u32)?,
-    })
-}
+    fn probe(self) -> Result<Notification<'a>, Refusal>
+        ensures { Tells Tag.Probe self.entry.end self.entry.left result }
+    {
+        self.none()?;
+        Ok(Notification::Probe)
+    }
 
-pub(crate) fn ov(tail: Option<Part<'_>>, end: usize) -> Result<Notification<'_>, Refusal>
-    requires { IfSome tail InLine }
-    ensures { Tells Tag.Ov end tail.entry result }
-{
-    let (id, item, lost) = three(tail, end)?;
-    Ok(Notification::Ov {
-        id: number_in(id, 1, ID_LIMIT)?,
-        item: number_in(item, 1, 1)?,
-        lost: number_in(lost, 0, COUNT_LIMIT)?,
-    })
-}
+    fn eos(mut self) -> Result<Notification<'a>, Refusal>
+        ensures { Tells Tag.Eos self.entry.end self.entry.left result }
+    {
+        let id = self.next()?;
+        let item = self.last()?;
+        Ok(Notification::Eos {
+            id: id.number(Limits::ID)?,
+            item: item.number(Limits::SINGLE)?,
+        })
+    }
 
-pub(crate) fn conf(tail: Option<Part<'_>>, end: usize) -> Result<Notification<'_>, Refusal>
-    requires { IfSome tail InLine }
-    ensures { Tells Tag.Conf end tail.entry result }
-{
-    let (id, frequency, filter) = three(tail, end)?;
-    Ok(Notification::Conf {
-        id: number_in(id, 1, ID_LIMIT)?,
-        frequency: text_in(frequency)?,
-        filter: text_in(filter)?,
-    })
-}
+    fn subok(mut self) -> Result<Notification<'a>, Refusal>
+        ensures { Tells Tag.Subok self.entry.end self.entry.left result }
+    {
+        let id = self.next()?;
+        let items = self.next()?;
+        let fields = self.last()?;
+        Ok(Notification::Subok {
+            id: id.number(Limits::ID)?,
+            items: items.number(Limits::SINGLE)?,
+            fields: fields.number(Limits::FIELDS)?,
+        })
+    }
 
-pub(crate) fn update(tail: Option<Part<'_>>, end: usize) -> Result<Notification<'_>, Refusal>
-    requires { IfSome tail InLine }
-    ensures { Tells Tag.U end tail.entry result }
-{
-    let (id, item, values) = three(tail, end)?;
-    Ok(Notification::U {
-        id: number_in(id, 1, ID_LIMIT)?,
-        item: number_in(item, 1, 1)?,
-        values,
-    })
-}
+    fn ov(mut self) -> Result<Notification<'a>, Refusal>
+        ensures { Tells Tag.Ov self.entry.end self.entry.left result }
+    {
+        let id = self.next()?;
+        let item = self.next()?;
+        let lost = self.last()?;
+        Ok(Notification::Ov {
+            id: id.number(Limits::ID)?,
+            item: item.number(Limits::SINGLE)?,
+            lost: lost.number(Limits::COUNT)?,
+        })
+    }
 
-pub(crate) fn reqerr(tail: Option<Part<'_>>, end: usize) -> Result<Notification<'_>, Refusal>
-    requires { IfSome tail InLine }
-    ensures { Tells Tag.Reqerr end tail.entry result }
-{
-    let (request, code, message) = three(tail, end)?;
-    Ok(Notification::Reqerr {
-        request: text_in(request)?,
-        code: code_in(code)?,
-        message: text_in(message)?,
-    })
-}
+    fn conf(mut self) -> Result<Notification<'a>, Refusal>
+        ensures { Tells Tag.Conf self.entry.end self.entry.left result }
+    {
+        let id = self.next()?;
+        let frequency = self.next()?;
+        let filter = self.last()?;
+        Ok(Notification::Conf {
+            id: id.number(Limits::ID)?,
+            frequency: frequency.text()?,
+            filter: filter.text()?,
+        })
+    }
 
-pub(crate) fn conok(tail: Option<Part<'_>>, end: usize) -> Result<Notification<'_>, Refusal>
-    requires { IfSome tail InLine }
-    ensures { Tells Tag.Conok end tail.entry result }
-{
-    let (session, limit, keepalive, link) = four(tail, end)?;
-    Ok(Notification::Conok {
-        session: text_in(session)?,
-        limit: number_in(limit, 0, COUNT_LIMIT)?,
-        keepalive: number_in(keepalive, 0, COUNT_LIMIT)?,
-        link: text_in(link)?,
-    })
+    fn update(mut self) -> Result<Notification<'a>, Refusal>
+        ensures { Tells Tag.U self.entry.end self.entry.left result }
+    {
+        let id = self.next()?;
+        let item = self.next()?;
+        let values = self.last()?;
+        Ok(Notification::U {
+            id: id.number(Limits::ID)?,
+            item: item.number(Limits::SINGLE)?,
+            values,
+        })
+    }
+
+    fn reqerr(mut self) -> Result<Notification<'a>, Refusal>
+        ensures { Tells Tag.Reqerr self.entry.end self.entry.left result }
+    {
+        let request = self.next()?;
+        let number = self.next()?;
+        let text = self.last()?;
+        let request = request.text()?;
+        let (code, message) = number.code_and_text(text)?;
+        Ok(Notification::Reqerr {
+            request,
+            code,
+            message,
+        })
+    }
+
+    fn conok(mut self) -> Result<Notification<'a>, Refusal>
+        ensures { Tells Tag.Conok self.entry.end self.entry.left result }
+    {
+        let session = self.next()?;
+        let limit = self.next()?;
+        let keepalive = self.next()?;
+        let link = self.last()?;
+        Ok(Notification::Conok {
+            session: session.text()?,
+            limit: limit.number(Limits::COUNT)?,
+            keepalive: keepalive.number(Limits::COUNT)?,
+            link: link.text()?,
+        })
+    }
+
+    // What a line with this tag says.
+    pub(crate) fn says(self, tag: Tag) -> Result<Notification<'a>, Refusal>
+        ensures { Tells tag self.entry.end self.entry.left result }
+    {
+        match tag {
+            Tag::U => self.update(),
+            Tag::Probe => self.probe(),
+            Tag::Sync => Ok(Notification::Sync(self.last()?.number(Limits::COUNT)?)),
+            Tag::Loop => Ok(Notification::Loop(self.last()?.number(Limits::COUNT)?)),
+            Tag::Cons => Ok(Notification::Cons(self.last()?.text()?)),
+            Tag::Servname => Ok(Notification::Servname(self.last()?.text()?)),
+            Tag::Clientip => Ok(Notification::Clientip(self.last()?.text()?)),
+            Tag::Reqok => Ok(Notification::Reqok(self.last()?.text()?)),
+            Tag::Unsub => Ok(Notification::Unsub(self.last()?.number(Limits::ID)?)),
+            Tag::Conerr => {
+                let (code, message) = self.code_and_text()?;
+                Ok(Notification::Conerr(code, message))
+            }
+            Tag::End => {
+                let (code, message) = self.code_and_text()?;
+                Ok(Notification::End(code, message))
+            }
+            Tag::Error => {
+                let (code, message) = self.code_and_text()?;
+                Ok(Notification::Error(code, message))
+            }
+            Tag::Eos => self.eos(),
+            Tag::Subok => self.subok(),
+            Tag::Ov => self.ov(),
+            Tag::Conf => self.conf(),
+            Tag::Reqerr => self.reqerr(),
+            Tag::Conok => self.conok(),
+        }
+    }
 }

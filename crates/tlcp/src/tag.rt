@@ -1,8 +1,8 @@
 // The tags of lines.
-ghost use Rattle.std.specs.Prelude.{◌≡◌, drop};
-ghost use Rattle.tlcp.specs.Lines.{first_tag, tag_of, tags};
+ghost use Rattle.std.specs.Prelude.{◌≡◌};
+ghost use Rattle.tlcp.specs.Lines.{tag_of, word};
 
-use crate::part::is_word;
+use crate::word::{Worded, first_with};
 
 #[derive(Clone, Copy, PartialEq, Debug)]
 pub enum Tag {
@@ -26,57 +26,60 @@ pub enum Tag {
     Conok,
 }
 
+const TAGS: [Tag; 18] = [
+    Tag::U,
+    Tag::Probe,
+    Tag::Sync,
+    Tag::Loop,
+    Tag::Cons,
+    Tag::Servname,
+    Tag::Clientip,
+    Tag::Reqok,
+    Tag::Unsub,
+    Tag::Conerr,
+    Tag::End,
+    Tag::Error,
+    Tag::Eos,
+    Tag::Subok,
+    Tag::Ov,
+    Tag::Conf,
+    Tag::Reqerr,
+    Tag::Conok,
+];
+
+impl Worded for Tag {
+    ghost word_of = { word };
+
+    fn word(self) -> &'static [u8] {
+        match self {
+            Tag::U => b"U",
+            Tag::Probe => b"PROBE",
+            Tag::Sync => b"SYNC",
+            Tag::Loop => b"LOOP",
+            Tag::Cons => b"CONS",
+            Tag::Servname => b"SERVNAME",
+            Tag::Clientip => b"CLIENTIP",
+            Tag::Reqok => b"REQOK",
+            Tag::Unsub => b"UNSUB",
+            Tag::Conerr => b"CONERR",
+            Tag::End => b"END",
+            Tag::Error => b"ERROR",
+            Tag::Eos => b"EOS",
+            Tag::Subok => b"SUBOK",
+            Tag::Ov => b"OV",
+            Tag::Conf => b"CONF",
+            Tag::Reqerr => b"REQERR",
+            Tag::Conok => b"CONOK",
+        }
+    }
+}
+
 impl Tag {
     // The tag that a word stands for.
+    // kept: of a TryFrom for the unknown tag's refusal the proof of the line reader did not close
     pub fn of(word: &[u8]) -> Option<Tag>
         ensures { result ≡ tag_of word.now }
     {
-        if is_word(word, b"U") {
-            Some(Tag::U)
-        } else if is_word(word, b"PROBE") {
-            Some(Tag::Probe)
-        } else if is_word(word, b"SYNC") {
-            Some(Tag::Sync)
-        } else if is_word(word, b"LOOP") {
-            Some(Tag::Loop)
-        } else if is_word(word, b"CONS") {
-            Some(Tag::Cons)
-        } else if is_word(word, b"SERVNAME") {
-            Some(Tag::Servname)
-        } else if is_word(word, b"CLIENTIP") {
-            Some(Tag::Clientip)
-        } else if is_word(word, b"REQOK") {
-            Some(Tag::Reqok)
-        } else if is_word(word, b"UNSUB") {
-            Some(Tag::Unsub)
-        } else {
-            Tag::of_others(word)
-        }
-    }
-
-    fn of_others(word: &[u8]) -> Option<Tag>
-        ensures { result ≡ first_tag (drop 9 tags) word.now }
-    {
-        if is_word(word, b"CONERR") {
-            Some(Tag::Conerr)
-        } else if is_word(word, b"END") {
-            Some(Tag::End)
-        } else if is_word(word, b"ERROR") {
-            Some(Tag::Error)
-        } else if is_word(word, b"EOS") {
-            Some(Tag::Eos)
-        } else if is_word(word, b"SUBOK") {
-            Some(Tag::Subok)
-        } else if is_word(word, b"OV") {
-            Some(Tag::Ov)
-        } else if is_word(word, b"CONF") {
-            Some(Tag::Conf)
-        } else if is_word(word, b"REQERR") {
-            Some(Tag::Reqerr)
-        } else if is_word(word, b"CONOK") {
-            Some(Tag::Conok)
-        } else {
-            None
-        }
+        first_with(&TAGS, word)
     }
 }

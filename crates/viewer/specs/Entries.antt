@@ -1,29 +1,36 @@
 -- Which entry a line speaks to.
-use Rattle.std.specs.Prelude.{ℕ, ◌+◌, Bool, true, false, cond, ◌&&◌, List, [], ◌∷◌, Some, None, Option, ◌==◌}
+use Rattle.std.specs.Prelude.{ℕ, Bool, ◌&&◌, List, Some, None, Option, ◌==◌, get_or, is_some, position}
+use Rattle.std.specs.Option.{option_map}
 use Rattle.viewer.specs.declared.entry.Entry.{Entry}
-use Rattle.viewer.specs.declared.entry.Wanted.{Wanted}
-use Rattle.viewer.specs.declared.entry.Wanted.TheVariants.{Any, Open}
 
--- an entry with this ID, open where that is wanted
-abbrev pub fits : Wanted → ℕ → Entry → Bool
-fits Any id e = e.id == id
-fits Open id e = e.id == id && e.open
+-- an entry with this ID
+abbrev pub fits : ℕ → Entry → Bool
+fits id e = e.id == id
 
--- the index of the first entry that fits, where the entries count from n on
-abbrev pub find_from : ℕ → Wanted → ℕ → List Entry → Option ℕ
-find_from n w id [] = None
-find_from n w id (e ∷ es) = let later = find_from (n + 1) w id es in cond (fits w id e) (Some n) later
+-- an open entry with this ID
+abbrev pub fits_open : ℕ → Entry → Bool
+fits_open id e = fits id e && is_some e.fields
 
-abbrev pub find_entry : Wanted → ℕ → List Entry → Option ℕ
-find_entry = find_from 0
+-- the index of the first entry that fits
+abbrev pub find_entry : (Entry → Bool) → List Entry → Option ℕ
+find_entry = position
 
 -- an entry as SUBOK and UNSUB leave it
 abbrev pub opened : ℕ → ℕ → Entry
-opened id n = record { id = id; «open» = true; fields = n }
+opened id n = record { id = id; fields = Some n }
 
 abbrev pub closed : Entry
-closed = record { id = 0; «open» = false; fields = 0 }
+closed = record { id = 0; fields = None }
 
 -- an entry that holds an ID, closed
 abbrev pub waiting : ℕ → Entry
-waiting id = record { id = id; «open» = false; fields = 0 }
+waiting id = record { id = id; fields = None }
+
+-- an entry's index and its field count, if it is open
+abbrev pub with_count : List Entry → Option ℕ → Option (ℕ × ℕ)
+with_count es None = None
+with_count es (Some i) = option_map (λ n. (i, n)) (get_or es i closed).fields
+
+-- the index of the first open entry with an ID, and its field count: a closed entry has none
+abbrev pub find_open : ℕ → List Entry → Option (ℕ × ℕ)
+find_open id es = with_count es (find_entry (fits_open id) es)

@@ -1,5 +1,5 @@
 -- What a viewer makes of a line.
-use Rattle.std.specs.Prelude.{ℕ, Bool, cond, ◌&&◌, List, [], map, length, get_or, Some, None, Ok, Err, Option, Result, ◌==◌, slice_index_or, slice_set}
+use Rattle.std.specs.Prelude.{ℕ, Bool, cond, ◌&&◌, List, [], map, length, Some, None, Ok, Err, Option, Result, ◌==◌, slice_index_or, slice_set}
 use Rattle.row.specs.Kinds.{Kind}
 use Rattle.row.specs.Limits.{field_limit}
 use Rattle.row.specs.Records.{held, memory_refusal}
@@ -14,11 +14,10 @@ use Rattle.tlcp.specs.Lists.{read_list, shifted}
 use Rattle.tlcp.specs.Parts.{Piece}
 use Rattle.tlcp.specs.declared.tag.Tag.{Tag}
 use Rattle.tlcp.specs.declared.tag.Tag.TheVariants.{U, Probe, Sync, Loop, Cons, Servname, Clientip, Reqok, Unsub, Conerr, End, Error, Eos, Subok, Ov, Conf, Reqerr, Conok}
-use Rattle.viewer.specs.Entries.{find_entry, opened, closed}
+use Rattle.viewer.specs.Entries.{find_entry, find_open, fits, opened, closed}
 use Rattle.viewer.specs.Limits.{cell_limit}
 use Rattle.viewer.specs.Rows.{null_row, change_row}
 use Rattle.viewer.specs.declared.entry.Entry.{Entry}
-use Rattle.viewer.specs.declared.entry.Wanted.TheVariants.{Any, Open}
 use Rattle.viewer.specs.declared.hear.Heard.{Heard}
 use Rattle.viewer.specs.declared.hear.Heard.TheVariants.{Taken, Passed}
 
@@ -65,6 +64,9 @@ pub record Outcome (R : Type 0) : Type 0 where
   pub delta : List (Change R)
   pub answer : Result Heard Refusal
 
+abbrev pub outcome : {R : Type 0} → List Entry → List (Cell R) → List (Change R) → Result Heard Refusal → Outcome R
+outcome es cs d a = record { entries = es; cells = cs; delta = d; answer = a }
+
 module _ {R : Type 0} (k : Kind R) where
   abbrev pub blank_delta : List (Change R)
   blank_delta = map (held k) (filled [])
@@ -82,14 +84,15 @@ module _ {R : Type 0} (k : Kind R) where
   change_by es cs at i (Ok d) = record { entries = es; cells = change_row k i d cs; delta = held_delta k (Ok d); answer = Ok Taken }
   change_by es cs at i (Err r) = unmoved es cs (Err (shifted at r))
 
-  abbrev pub update : List Entry → List (Cell R) → Piece → Option ℕ → Outcome R
+  -- the row of an open entry with so many fields is changed
+  abbrev pub update : List Entry → List (Cell R) → Piece → Option (ℕ × ℕ) → Outcome R
   update es cs p None = unmoved es cs (Ok Passed)
-  update es cs p (Some i) = change_by es cs p.at i (read_list k.allowed (get_or es i closed).fields p.text)
+  update es cs p (Some (i, n)) = change_by es cs p.at i (read_list k.allowed n p.text)
 
   abbrev pub hear_effect : List Entry → List (Cell R) → Effect → Outcome R
-  hear_effect es cs (opens id n) = set_entry es cs (opened id n) (find_entry Any id es)
-  hear_effect es cs (closes id) = set_entry es cs closed (find_entry Any id es)
-  hear_effect es cs (updates id p) = update es cs p (find_entry Open id es)
+  hear_effect es cs (opens id n) = set_entry es cs (opened id n) (find_entry (fits id) es)
+  hear_effect es cs (closes id) = set_entry es cs closed (find_entry (fits id) es)
+  hear_effect es cs (updates id p) = update es cs p (find_open id es)
   hear_effect es cs nothing = unmoved es cs (Ok Taken)
 
   abbrev pub hear_message : List Entry → List (Cell R) → Result Message Refusal → Outcome R

@@ -1,50 +1,47 @@
 // The entries of a viewer.
 ghost use Rattle.std.specs.Prelude.{◌≡◌, ◌<◌, length, IfSome};
-ghost use Rattle.viewer.specs.Entries.{fits, find_entry};
+ghost use Rattle.viewer.specs.Entries.{find_entry, find_open, fits, fits_open};
 
 pub const TAP_LIMIT: usize = 8;
 
-// What the viewer knows of a tap: its subscription ID (0 for none), whether that is open, and its field count.
+// What the viewer knows of a tap: its subscription ID, and the field count if that is open.
+// No ID is 0 by the protocol's rule, so 0 stands for none.
 #[derive(Clone, Copy, PartialEq, Debug)]
 pub struct Entry {
     pub id: u32,
-    pub open: bool,
-    pub fields: usize,
-}
-
-// Which entries with an ID a line speaks to.
-#[derive(Clone, Copy)]
-pub enum Wanted {
-    Any,
-    Open,
+    pub fields: Option<usize>,
 }
 
 impl Entry {
     pub const CLOSED: Entry = Entry {
         id: 0,
-        open: false,
-        fields: 0,
+        fields: None,
     };
-
-    fn is_fit(&self, wanted: Wanted, id: u32) -> bool
-        ensures { result ≡ fits wanted id self.now }
-    {
-        match wanted {
-            Wanted::Any => self.id == id,
-            Wanted::Open => self.id == id && self.open,
-        }
-    }
 }
 
-// The index of the first entry that fits.
-pub(crate) fn find_entry(entries: &[Entry], wanted: Wanted, id: u32) -> Option<usize>
-    ensures value { result ≡ find_entry wanted id entries.now }
+// The index of the first entry with an ID.
+pub(crate) fn find_entry(entries: &[Entry], id: u32) -> Option<usize>
+    ensures value { result ≡ find_entry (fits id) entries.now }
     ensures within { IfSome result (λ i. i < length entries.now) }
 {
-    for (i, entry) in entries.iter().enumerate() {
-        if entry.is_fit(wanted, id) {
-            return Some(i);
-        }
-    }
-    None
+    entries.iter().position(|entry| entry.id == id)
+}
+
+// The index of the first open entry with an ID, and its field count.
+pub(crate) fn find_open(entries: &[Entry], id: u32) -> Option<(usize, usize)>
+    ensures value { result ≡ find_open id entries.now }
+    ensures within { IfSome result (λ found. found.0 < length entries.now) }
+{
+    let i = find_open_index(entries, id)?;
+    let fields = entries[i].fields?;
+    Some((i, fields))
+}
+
+fn find_open_index(entries: &[Entry], id: u32) -> Option<usize>
+    ensures value { result ≡ find_entry (fits_open id) entries.now }
+    ensures within { IfSome result (λ i. i < length entries.now) }
+{
+    entries
+        .iter()
+        .position(|entry| entry.id == id && entry.fields.is_some())
 }

@@ -1,13 +1,12 @@
 // A viewer: hears lines, and keeps the rows of subscribed taps.
-ghost use Rattle.std.specs.Prelude.{◌≡◌, ◌+◌, ◌<◌, ◌≤◌, map, length, Ok};
+ghost use Rattle.std.specs.Prelude.{◌≡◌, map, length};
 ghost use Rattle.row.specs.Limits.{field_limit};
-ghost use Rattle.tlcp.specs.Said.{AllInLine, InLine, arguments_in, piece_in, tag_in};
-ghost use Rattle.viewer.specs.Entries.{waiting, find_entry};
-ghost use Rattle.viewer.specs.Hearing.{blank_delta, effect_of, set_entry, update, hear_effect, heard};
+ghost use Rattle.tlcp.specs.Said.{arguments_in, piece_in, tag_in};
+ghost use Rattle.viewer.specs.Entries.{find_entry, find_open, fits, waiting};
+ghost use Rattle.viewer.specs.Hearing.{effect_of, set_entry, update, hear_effect, heard, outcome};
 ghost use Rattle.viewer.specs.Limits.{tap_limit, cell_limit};
-ghost use Rattle.viewer.specs.declared.entry.Wanted.TheVariants.{Any, Open};
 
-use crate::entry::{Entry, TAP_LIMIT, Wanted, find_entry};
+use crate::entry::{Entry, TAP_LIMIT, find_entry, find_open};
 use crate::rows::{CELL_LIMIT, clear_row, update_row};
 use row::{Cell, Change, FIELD_LIMIT, Refusal, Value, blank};
 use tlcp::{Notification, Part, read_line, read_list};
@@ -25,28 +24,16 @@ pub struct Viewer {
     entries: [Entry; TAP_LIMIT],
 }
 
-// No update came.
-fn clear<R: Value>(delta: &mut [Change<R>])
-    requires { length delta.old ≡ field_limit }
-    ensures { delta.new ≡ blank_delta R.kind }
-{
-    blank(delta);
-}
-
+// Lent cells and changes stay two parameters: a struct over both needs a clause at each function that it keeps
+// their places, which is longer than the two lengths that it spares.
 impl Viewer {
     // A viewer whose entries hold these IDs, closed.
     pub fn holding(ids: [u32; TAP_LIMIT]) -> Viewer
         ensures { result.entries ≡ map waiting ids }
     {
-        let mut entries = [Entry::CLOSED; TAP_LIMIT];
-        for i in 0..TAP_LIMIT {
-            entries[i] = Entry {
-                id: ids[i],
-                open: false,
-                fields: 0,
-            };
+        Viewer {
+            entries: ids.map(|id| Entry { id, fields: None }),
         }
-        Viewer { entries }
     }
 
     // The entries, one for each tap.
@@ -58,18 +45,23 @@ impl Viewer {
     }
 
     // Sets the entry with an ID anew, open or not, and makes its cells null.
-    fn set_entry<R: Value>(&mut self, id: u32, entry: Entry, cells: &mut [Cell<R>]) -> Heard
-        requires { length cells.old ≡ cell_limit }
-        ensures entries { self.new.entries ≡ (set_entry R.kind self.old.entries cells.old entry (find_entry Any id self.old.entries)).entries }
-        ensures cells { cells.new ≡ (set_entry R.kind self.old.entries cells.old entry (find_entry Any id self.old.entries)).cells }
-        ensures answer { Ok result ≡ (set_entry R.kind self.old.entries cells.old entry (find_entry Any id self.old.entries)).answer }
+    fn set_entry<R: Value>(
+        &mut self,
+        id: u32,
+        entry: Entry,
+        cells: &mut [Cell<R>],
+        delta: &mut [Change<R>],
+    ) -> Result<Heard, Refusal>
+        requires { (length cells.old ≡ cell_limit) × (length delta.old ≡ field_limit) }
+        ensures { outcome self.new.entries cells.new delta.new result ≡ set_entry R.kind self.old.entries cells.old entry (find_entry (fits id) self.old.entries) }
     {
-        let Some(i) = find_entry(&self.entries, Wanted::Any, id) else {
-            return Heard::Passed;
+        blank(delta);
+        let Some(i) = find_entry(&self.entries, id) else {
+            return Ok(Heard::Passed);
         };
         self.entries[i] = entry;
         clear_row(cells, i);
-        Heard::Taken
+        Ok(Heard::Taken)
     }
 
     // Changes the row of the open entry with an ID by a value list.
@@ -80,26 +72,19 @@ impl Viewer {
         cells: &mut [Cell<R>],
         delta: &mut [Change<R>],
     ) -> Result<Heard, Refusal>
-        requires { (length cells.old ≡ cell_limit) × ((length delta.old ≡ field_limit) × (InLine values)) }
-        ensures cells { cells.new ≡ (update R.kind self.now.entries cells.old (piece_in values.entry) (find_entry Open id self.now.entries)).cells }
-        ensures changes { delta.new ≡ (update R.kind self.now.entries cells.old (piece_in values.entry) (find_entry Open id self.now.entries)).delta }
-        ensures answer { result ≡ (update R.kind self.now.entries cells.old (piece_in values.entry) (find_entry Open id self.now.entries)).answer }
+        requires { (length cells.old ≡ cell_limit) × (length delta.old ≡ field_limit) }
+        ensures { outcome self.now.entries cells.new delta.new result ≡ update R.kind self.now.entries cells.old (piece_in values.entry) (find_open id self.now.entries) }
     {
-        let Some(i) = find_entry(&self.entries, Wanted::Open, id) else {
-            clear(delta);
+        let Some((i, fields)) = find_open(&self.entries, id) else {
+            blank(delta);
             return Ok(Heard::Passed);
         };
-        let fields = self.entries[i].fields;
-        match read_list(values.bytes, fields, delta) {
-            Ok(()) => {
-                update_row(cells, i, delta);
-                Ok(Heard::Taken)
-            }
-            Err(refusal) => Err(Refusal {
-                fault: refusal.fault,
-                place: values.at + refusal.place,
-            }),
-        }
+        read_list(values.bytes, fields, delta).map_err(|refusal| Refusal {
+            place: values.at + refusal.place,
+            ..refusal
+        })?;
+        update_row(cells, i, delta);
+        Ok(Heard::Taken)
     }
 
     // Does what a message asks. The changes are same where it brings none.
@@ -109,11 +94,8 @@ impl Viewer {
         cells: &mut [Cell<R>],
         delta: &mut [Change<R>],
     ) -> Result<Heard, Refusal>
-        requires { (length cells.old ≡ cell_limit) × ((length delta.old ≡ field_limit) × (AllInLine (arguments_in says))) }
-        ensures entries { self.new.entries ≡ (hear_effect R.kind self.old.entries cells.old (effect_of (tag_in says.entry) (arguments_in says.entry))).entries }
-        ensures cells { cells.new ≡ (hear_effect R.kind self.old.entries cells.old (effect_of (tag_in says.entry) (arguments_in says.entry))).cells }
-        ensures changes { delta.new ≡ (hear_effect R.kind self.old.entries cells.old (effect_of (tag_in says.entry) (arguments_in says.entry))).delta }
-        ensures answer { result ≡ (hear_effect R.kind self.old.entries cells.old (effect_of (tag_in says.entry) (arguments_in says.entry))).answer }
+        requires { (length cells.old ≡ cell_limit) × (length delta.old ≡ field_limit) }
+        ensures { outcome self.new.entries cells.new delta.new result ≡ hear_effect R.kind self.old.entries cells.old (effect_of (tag_in says.entry) (arguments_in says.entry)) }
     {
         match says {
             Notification::Subok {
@@ -123,23 +105,18 @@ impl Viewer {
             } => {
                 let entry = Entry {
                     id: id.value,
-                    open: true,
-                    fields: fields.value as usize,
+                    fields: Some(fields.value as usize),
                 };
-                clear(delta);
-                Ok(self.set_entry(id.value, entry, cells))
+                self.set_entry(id.value, entry, cells, delta)
             }
-            Notification::Unsub(id) => {
-                clear(delta);
-                Ok(self.set_entry(id.value, Entry::CLOSED, cells))
-            }
+            Notification::Unsub(id) => self.set_entry(id.value, Entry::CLOSED, cells, delta),
             Notification::U {
                 id,
                 item: _,
                 values,
             } => self.update(id.value, values, cells, delta),
             _ => {
-                clear(delta);
+                blank(delta);
                 Ok(Heard::Taken)
             }
         }
@@ -163,7 +140,7 @@ impl Viewer {
         match read_line(line) {
             Ok(line) => self.obey(line.says, cells, delta),
             Err(refusal) => {
-                clear(delta);
+                blank(delta);
                 Err(refusal)
             }
         }

@@ -10,6 +10,7 @@ use row::{Cell, Change, FIELD_LIMIT, Value, change_row, nullify};
 
 pub const CELL_LIMIT: usize = 96;
 
+// kept: cells stand apart from the entries, in memory that is lent
 // Makes a tap's row null.
 pub(crate) fn clear_row<R: Value>(cells: &mut [Cell<R>], i: usize)
     requires { (i < tap_limit) × (length cells.old ≡ cell_limit) }

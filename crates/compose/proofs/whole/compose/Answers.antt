@@ -25,8 +25,8 @@ all c =
     let new = c.new-request.ensures.draft in
     begun_all c.args.name c.args.out.now (draft_of c.begin.new.self) (pairs_in c.args.pairs.now) (h.draft ∙ ap begin_in new) (h.answer ∙ ap begin_answer new)
 
-pub returns-in_err-begin : goal.returns-in_err-begin
-returns-in_err-begin c = record { answer = search rules; bytes = search rules; rooms = composes-all }
+pub returns-in_err-begin-clause-rooms : goal.returns-in_err-begin-clause-rooms
+returns-in_err-begin-clause-rooms c = composes-all
 
 pub loop-pair-init : goal.loop-pair-init
 loop-pair-init c = (comes-first (draft_of c.begin.new.self) (pairs_in c.args.pairs.now), refl)

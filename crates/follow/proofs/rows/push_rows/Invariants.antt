@@ -1,10 +1,13 @@
-use Rattle.std.proofs.Common.{◌≡◌, ℕ, List, ◌++◌, drop, vec_items}
-use Rattle.follow.specs.Answers.{rows_from, rows_text}
+use Rattle.std.proofs.Common.{◌≡◌, ◌*◌, ◌++◌, length, vec_items}
+use Rattle.follow.specs.Answers.{rows_text}
 use Rattle.follow.proofs.rows.push_rows.Given as goal
 
--- the text t of the first rows has been appended
-abbrev pub invariant-loop-i : goal.invariant-loop-i
-invariant-loop-i l =
-    (t : List ℕ)
-    × (vec_items l.out ≡ vec_items l.initial.out ++ t)
-    × (t ++ rows_from l.i (drop l.i l.viewer.entries) l.cells ≡ rows_text l.viewer.entries l.cells)
+-- what is left of the entries and the cells, behind what has been appended, comes to all rows
+abbrev pub invariant-loop-entry : goal.invariant-loop-entry
+invariant-loop-entry l = record {
+  can_next : (goal.iterator-loop-entry).can_next l.entry-iterator;
+  is_finite : (goal.iterator-loop-entry).is_finite l.entry-iterator;
+  size : l.entry-iterator.b.size ≡ 12;
+  long : length l.entry-iterator.b.rest.now ≡ 12 * length l.entry-iterator.a.rest.now;
+  text : vec_items l.out ++ rows_text l.entry-iterator.a.rest.now l.entry-iterator.b.rest.now ≡ vec_items l.initial.out ++ rows_text l.viewer.entries l.cells;
+}

@@ -7,15 +7,15 @@ use Rattle.notify.proofs.write.write_line.Goals as goal
 pub returns-in_err-compose : goal.returns-in_err-compose
 returns-in_err-compose c =
     let p = err_from_is_err_and c.from_residual.result c.from_residual.ensures.1 in
-    let h = line_refused (saying_of c.args.message) c.args.at c.args.out.now c.if-not-is_within.ensures _ c.in_err-compose.ensures.line in
+    let h = line_refused (saying_of c.args.message) c.args.at c.args.out.now c.if-is_within.ensures _ c.in_err-compose.ensures.line in
     rw (p.1, p.2) (record { answer = h.0; bytes = h.1; read_back = λ is. absurd (h.2 is); unbroken = λ is. absurd (h.2 is) })
 
-pub returns : goal.returns
-returns c =
+pub returns-in_ok-compose : goal.returns-in_ok-compose
+returns-in_ok-compose c =
     let s = saying_of c.args.message in
     let at = c.args.at in
     let out = c.args.out.now in
-    let within = c.if-not-is_within.ensures in
+    let within = c.if-is_within.ensures in
     let line = c.in_ok-compose.ensures in
     record {
       answer = line-answer s at out within _ line.line c.put.ensures.answer;

@@ -1,11 +1,7 @@
-use Rattle.std.proofs.Common.{◌≡◌, ◌+◌, ◌++◌, drop, vec_items, sym, refl, ap, ◌∙◌, append_assoc, rules}
+use Rattle.std.proofs.Common.{◌+◌, ◌++◌, drop, vec_items, sym, ap, ◌∙◌, append_assoc}
 use Rattle.std.proofs.lemmas.List.{append-nil, at_drop_all, at_drop_more}
 use Rattle.request.specs.Spelling.{spelled}
-use Rattle.request.proofs.Spellings.{reads-spelled}
 use Rattle.request.proofs.print.push_spelled.Goals as goal
-
-pub returns-in_err-push_byte : goal.returns-in_err-push_byte
-returns-in_err-push_byte c = record { bytes = search rules; back = reads-spelled }
 
 pub loop-b-preserved : goal.loop-b-preserved
 loop-b-preserved c =
@@ -14,10 +10,7 @@ loop-b-preserved c =
     ∙ c.loop-b.invariant
 
 pub returns : goal.returns
-returns c = record {
-  bytes =
-      sym (append-nil (vec_items c.loop-b.out))
-      ∙ sym (ap (λ l. vec_items c.loop-b.out ++ l) (at_drop_all spelled c.args.text.now c.loop-b.b-index c.loop-b-test.false))
-      ∙ c.loop-b.invariant;
-  back = reads-spelled;
-}
+returns c =
+    sym (append-nil (vec_items c.loop-b.out))
+    ∙ sym (ap (λ l. vec_items c.loop-b.out ++ l) (at_drop_all spelled c.args.text.now c.loop-b.b-index c.loop-b-test.false))
+    ∙ c.loop-b.invariant

@@ -1,20 +1,34 @@
-use Rattle.std.proofs.Common.{ℕ, ◌+◌, ◌^◌, ◌<◌, ◌≤◌, length, take, replicate, decimal, ap, ◌∙◌, arith}
-use native.Mathlib.Nat.{sub-zero}
-use Rattle.std.proofs.lemmas.Fmt.{length-decimal-le}
+use Rattle.std.proofs.Common.{◌≡◌, ℕ, ◌-◌, ◌≤◌, ◌<◌, ◌^◌, false, ◌&&◌, eqb, List, [], ◌∷◌, length, get_or, take, drop, Some, None, decimal, Decides, Option, sym, refl, ap, ◌∙◌, arith, lit<}
+use Rattle.std.specs.Bool.{one_answer}
+use Rattle.std.specs.Option.{option_eq}
+use Rattle.std.proofs.lemmas.Bool.{both_ways, eqb-true, eq-eqb}
+use Rattle.std.proofs.lemmas.Bool.Decides.{Decides-like}
+use Rattle.std.proofs.lemmas.List.{take_rest}
 use Rattle.tlcp.specs.Lines.{same_bytes}
-use Rattle.tlcp.proofs.Placing.{placed-appended, no-refusal}
+use Rattle.tlcp.specs.Numbers.{number_of}
+use Rattle.tlcp.proofs.Numerals.{reads-decimal}
+use Rattle.requests.specs.Values.{session_name}
+use Rattle.requests.proofs.Fitting.{decides-same}
 use Rattle.requests.proofs.fit.is_session.Goals as goal
 
--- the digits fit behind the `S`
-room : (n : ℕ) → n < 2 ^ 32 → 1 + length (decimal n) ≤ 11
-room n small = omega (arith, length-decimal-le 10 n (omega arith) (omega arith) (omega arith))
+decides-some : (o : Option ℕ) (n : ℕ) → Decides (option_eq eqb o (Some n)) (o ≡ Some n)
+decides-some None n = (λ e. absurd (both_ways false refl e), λ e. cc)
+decides-some (Some m) n = (λ e. ap Some (eqb-true m n e), λ e. let same : m ≡ n = cc in eq-eqb m n same)
 
-pub unreachable-requires : goal.unreachable-requires
-unreachable-requires c = no-refusal 1 (decimal c.args.session) (replicate 11 83) c.in-Err.field-0 (room c.args.session (omega arith)) c.in-Err.ensures.answer
+-- digits are read as a number of 32 bits exactly where they are its decimal text
+numeral : (ds : List ℕ) (n : ℕ) → n < 2 ^ 32 → option_eq eqb (number_of 0 4294967295 ds) (Some n) ≡ same_bytes ds (decimal n)
+numeral ds n small =
+    let reads = reads-decimal 0 4294967295 n ds (lit< tt) in
+    one_answer _ _ (Decides-like _ (λ e. (reads.0 e).0) (λ e. reads.1 e (omega arith) (omega arith)) (decides-some (number_of 0 4294967295 ds) n)) (decides-same ds (decimal n))
 
-pub returns : goal.returns
-returns c =
-    let n = c.args.session in
-    let h = c.in-Ok.ensures in
-    let written = placed-appended 1 (decimal n) (replicate 11 83) c.in-Ok.len _ (room n (omega arith)) h.answer h.bytes in
-    c.is_word.ensures ∙ ap (same_bytes c.args.text.now) (ap (λ k. take k c.write_number.new.out) (sub-zero c.in-Ok.len) ∙ written.bytes)
+session-is : (t : List ℕ) (n : ℕ) → n < 2 ^ 32 → 1 ≤ length t → get_or t 0 0 ≡ 83 → option_eq eqb (number_of 0 4294967295 (take (length t - 1) (drop 1 t))) (Some n) ≡ same_bytes t (session_name n)
+session-is t n small some first = ap (λ ds. option_eq eqb (number_of 0 4294967295 ds) (Some n)) (take_rest t 1) ∙ numeral (drop 1 t) n small ∙ sym (headed t some first)
+  where
+    headed : (t : List ℕ) → 1 ≤ length t → get_or t 0 0 ≡ 83 → same_bytes t (session_name n) ≡ same_bytes (drop 1 t) (decimal n)
+    headed [] some first = absurd (omega arith)
+    headed (b ∷ ds) some first = ap (λ h. h && same_bytes ds (decimal n)) (eq-eqb b 83 first)
+
+pub returns-in-83 : goal.returns-in-83
+returns-in-83 c =
+    c.eq.ensures ∙ ap (λ o. option_eq eqb o (Some c.args.session)) c.read_number.ensures.value
+    ∙ session-is c.args.text.now c.args.session (omega arith) c.in-83.len_at_least (omega arith)

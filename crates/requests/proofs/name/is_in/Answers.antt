@@ -1,24 +1,33 @@
-use Rattle.std.proofs.Common.{◌≡◌, ◌+◌, ◌||◌, get_or, drop, sym, ap, ◌∙◌}
-use Rattle.std.proofs.lemmas.List.{at_drop_more, at_drop_all}
-use Rattle.std.proofs.lemmas.Bool.{eq-eqb, ne_eqb}
+use Rattle.std.proofs.Common.{◌≡◌, ℕ, eqb, List, refl, ap, ◌∙◌, arith}
+use Rattle.std.specs.List.{list_any}
+use Rattle.std.proofs.lemmas.Bool.Decides.{nat_tests}
+use denote.Enum.Bare.{sameb}
+use denote.Enum.Declared.{tag_of}
+use Rattle.requests.specs.contracts.name.Parameter.{the_type}
 use Rattle.requests.specs.Names.{index_of, is_in}
-use Rattle.requests.specs.declared.name.Parameter.TheVariants.{Cid}
+use Rattle.requests.specs.declared.name.Parameter.{Parameter}
+use Rattle.requests.specs.declared.name.Parameter.TheVariants.{Cid, User, Password, Session, RequestId, Operation, SubscriptionId, Group, Schema, Mode, Snapshot}
 use Rattle.requests.proofs.name.is_in.Goals as goal
 
-pub returns-then-index : goal.returns-then-index
-returns-then-index c =
-    let p = c.args.parameter in
-    let q = get_or c.args.some.now c.loop-p.p-index Cid in
-    let same = sym c.index.ensures.value ∙ c.if-index.true ∙ c.index-in-loop-p.ensures.value in
-    sym (c.loop-p.invariant ∙ at_drop_more (is_in p) c.args.some.now c.loop-p.p-index Cid c.loop-p-test.true ∙ ap (λ b. b || is_in p (drop (c.loop-p.p-index + 1) c.args.some.now)) (eq-eqb (index_of p) (index_of q) same))
+-- a parameter's index is its place among the variants
+tagged : (p : Parameter) → tag_of the_type p ≡ index_of p
+tagged Cid = refl
+tagged User = refl
+tagged Password = refl
+tagged Session = refl
+tagged RequestId = refl
+tagged Operation = refl
+tagged SubscriptionId = refl
+tagged Group = refl
+tagged Schema = refl
+tagged Mode = refl
+tagged Snapshot = refl
 
-pub loop-p-preserved : goal.loop-p-preserved
-loop-p-preserved c =
-    let p = c.args.parameter in
-    let q = get_or c.args.some.now c.loop-p.p-index Cid in
-    let other : index_of p ≡ index_of q → ⊥ = λ e. c.if-index.false (c.index.ensures.value ∙ e ∙ sym c.index-in-loop-p.ensures.value) in
-    c.loop-p.invariant ∙ at_drop_more (is_in p) c.args.some.now c.loop-p.p-index Cid c.loop-p-test.true
-    ∙ ap (λ b. b || is_in p (drop (c.loop-p.p-index + 1) c.args.some.now)) (ne_eqb (index_of p) (index_of q) other)
+either_way : (m n : ℕ) → eqb m n ≡ eqb n m
+either_way m n = grind (arith, nat_tests)
+
+among : (p : Parameter) (qs : List Parameter) → list_any (λ q. sameb the_type q p) qs ≡ is_in p qs
+among p qs = ap (λ f. list_any f qs) (λ i q. ((λ j. eqb (tagged q j) (tagged p j)) ∙ either_way (index_of q) (index_of p)) i)
 
 pub returns : goal.returns
-returns c = sym (c.loop-p.invariant ∙ at_drop_all (is_in c.args.parameter) c.args.some.now c.loop-p.p-index c.loop-p-test.false)
+returns c = c.contains.ensures.value ∙ among c.args.parameter c.args.some.now

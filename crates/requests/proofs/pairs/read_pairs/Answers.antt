@@ -1,34 +1,66 @@
-use Rattle.std.proofs.Common.{◌+◌, length, sym, refl, ap, ◌∙◌, arith}
-use Rattle.std.specs.Option.{option_map}
-use Rattle.std.proofs.lemmas.Option.{MatchOption-at_some}
+use Rattle.std.proofs.Common.{◌≡◌, ◌+◌, eqb, [], ◌∷◌, drop, length, length-append, sym, ap, ◌∙◌, arith, rules, tests, of_calls}
+use Rattle.std.proofs.lemmas.Iterator.Consumers.{YieldsList-at, YieldsList-end, YieldsList-turn}
+use Rattle.std.proofs.lemmas.Iterator.Splits.{YieldsList-from_slice_split}
 use Rattle.std.proofs.lemmas.Result.{err_from_is_err_and}
-use Rattle.tlcp.proofs.Dividing.{parts_of}
+use Rattle.tlcp.specs.Dividing.{divided_by}
+use Rattle.tlcp.specs.Lines.{and_then}
 use Rattle.requests.specs.Read.{pairs_in}
 use Rattle.requests.specs.Requests.{read_pairs}
-use Rattle.requests.proofs.Slots.{pairs-refused, pairs-on}
+use Rattle.requests.proofs.Spread.{at-piece, no-piece, spread, spread-divided}
+use Rattle.requests.proofs.pairs.read_pairs.Given as given
 use Rattle.requests.proofs.pairs.read_pairs.Goals as goal
+use Rattle.requests.proofs.pairs.read_pairs.Goals.{In-Some}
 
-pub loop-rest-init : goal.loop-rest-init
-loop-rest-init c = (refl, c.requires)
+-- the pieces that are left begin with this pair
+piece : (c : In-Some) → drop (length c.loop-pair.yielded) (divided_by 38 c.args.body.now) ≡ c.in-Some.pair.now ∷ drop (length c.loop-pair.yielded + 1) (divided_by 38 c.args.body.now)
+piece c =
+    let s = c.args.body.now in
+    let split = c.split-pair-items.ensures in
+    let turn = YieldsList-turn {steps = given.iterator-loop-pair.next_gives} (YieldsList-at c.into_iter-pair-iterator.ensures.into_iter_gives (YieldsList-from_slice_split _ (λ b. eqb b 38) s split.rest split.done split.closure (λ x b q k. search (rules, tests))))
+    c.loop-pair.yielded c.loop-pair.pair-iterator c.loop-pair.yielded_by c.next.result c.next.new.self c.in-Some.pair c.in-Some.is c.next.ensures.steps in
+    at-piece 38 s (length c.loop-pair.yielded) c.in-Some.pair.now turn.0 turn.1
+
+pub loop-pair-init : goal.loop-pair-init
+loop-pair-init c = record { next = search of_calls; finite = tt; reads = search rules; ends = omega (arith, spread-divided 38 c.args.body.now) }
+
+pub add-requires : goal.add-requires
+add-requires c = omega (arith, c.loop-pair.invariant.ends, ap spread (piece (goal.at.add-requires c).In-Some), c.requires)
 
 pub returns-in_err-add : goal.returns-in_err-add
 returns-in_err-add c =
+    let n = c.args.name in
+    let at = c.loop-pair.at in
+    let p = c.in-Some.pair.now in
     let e = err_from_is_err_and c.from_residual.result c.from_residual.ensures.1 in
     rw (e.1, e.2)
-    (pairs-refused c.args.name c.loop-rest.at c.loop-rest.left.now (pairs_in c.loop-rest.pairs) c.split.result.0.now _ c.split.ensures.front c.split.ensures.back c.in_err-add.field-0.0 c.in_err-add.ensures
-    ∙ sym c.loop-rest.invariant.0)
+    (sym
+    (c.loop-pair.invariant.reads
+    ∙ ap (λ ss. read_pairs n at ss (pairs_in c.loop-pair.pairs)) (piece (goal.at.returns-in_err-add c).In-Some)
+    ∙ ap (λ r. and_then r (read_pairs n (at + (length p + 1)) (drop (length c.loop-pair.yielded + 1) (divided_by 38 c.args.body.now)))) (sym c.in_err-add.ensures)))
 
-pub returns-in_default : goal.returns-in_default
-returns-in_default c =
-    sym
-    (c.loop-rest.invariant.0
-    ∙ pairs-on c.args.name c.loop-rest.at c.loop-rest.left.now (pairs_in c.loop-rest.pairs) c.split.result.0.now _ c.split.ensures.front c.split.ensures.back _ c.in_ok-add.ensures
-    ∙ ap (λ o. read_pairs c.args.name (c.loop-rest.at + (length c.split.result.0.now + 1)) (parts_of 38 (option_map (λ r. r.now) o)) (pairs_in c.add.new.self)) c.in_default.is)
+pub loop-pair-preserved : goal.loop-pair-preserved
+loop-pair-preserved c =
+    let n = c.args.name in
+    let at = c.loop-pair.at in
+    let p = c.in-Some.pair.now in
+    let ss = divided_by 38 c.args.body.now in
+    let next = length-append c.loop-pair.yielded (c.in-Some.pair ∷ []) in
+    let here = piece (goal.at.loop-pair-preserved c).In-Some in
+    record {
+      next = search of_calls;
+      finite = tt;
+      reads =
+          c.loop-pair.invariant.reads
+          ∙ ap (λ l. read_pairs n at l (pairs_in c.loop-pair.pairs)) here
+          ∙ ap (λ r. and_then r (read_pairs n (at + (length p + 1)) (drop (length c.loop-pair.yielded + 1) ss))) (sym c.in_ok-add.ensures)
+          ∙ ap (λ k. read_pairs n (at + (length p + 1)) (drop k ss) (pairs_in c.add.new.self)) (sym next);
+      ends = omega (arith, c.loop-pair.invariant.ends, ap spread here, ap (λ k. spread (drop k ss)) next);
+    }
 
-pub loop-rest-preserved : goal.loop-rest-preserved
-loop-rest-preserved c = (
-  c.loop-rest.invariant.0
-      ∙ pairs-on c.args.name c.loop-rest.at c.loop-rest.left.now (pairs_in c.loop-rest.pairs) c.split.result.0.now _ c.split.ensures.front c.split.ensures.back _ c.in_ok-add.ensures
-      ∙ ap (λ o. read_pairs c.args.name (c.loop-rest.at + (length c.split.result.0.now + 1)) (parts_of 38 (option_map (λ r. r.now) o)) (pairs_in c.add.new.self)) c.in-Some.is,
-  omega (arith, MatchOption-at_some _ _ _ c.in-Some.is c.split.ensures.sizes, c.loop-rest.invariant.1),
-)
+pub returns : goal.returns
+returns c =
+    let s = c.args.body.now in
+    let split = c.split-pair-items.ensures in
+    let end = YieldsList-end {steps = given.iterator-loop-pair.next_gives} (YieldsList-at c.into_iter-pair-iterator.ensures.into_iter_gives (YieldsList-from_slice_split _ (λ b. eqb b 38) s split.rest split.done split.closure (λ x b q k. search (rules, tests))))
+    c.loop-pair.yielded c.loop-pair.pair-iterator c.loop-pair.yielded_by c.next.result c.next.new.self c.in-None.is c.next.ensures.steps in
+    sym (c.loop-pair.invariant.reads ∙ ap (λ ss. read_pairs c.args.name c.loop-pair.at ss (pairs_in c.loop-pair.pairs)) (no-piece 38 s (length c.loop-pair.yielded) end.1))

@@ -1,21 +1,24 @@
-use Rattle.std.proofs.Common.{◌+◌, map, take, set, sym, ap, ◌∙◌, arith}
+use Rattle.std.proofs.Common.{◌≡◌, cond, map, ap, ◌∙◌}
 use Rattle.std.proofs.lemmas.Bool.{cond-true}
-use Rattle.row.specs.Records.{answer_if, change_of, wholly}
-use Rattle.row.proofs.Over.{copy_step, copy-all, wholly-means, rows_fit_lem}
+use Rattle.row.specs.Records.{answer_if, change_of, rows_fit, wholly}
+use Rattle.row.proofs.Over.{fit-swap, onto-or, wholly-means}
 use Rattle.row.proofs.change.whole_row.Goals as goal
+use Rattle.row.proofs.change.whole_row.Goals.{After-step_all}
+use Rattle.row.proofs.change.whole_row.Given as given
 
-pub loop-i-preserved : goal.loop-i-preserved
-loop-i-preserved g c =
-    ap (λ x. take (c.loop-i.i + 1) (set c.loop-i.delta c.loop-i.i x)) c.as_change.ensures
-    ∙ copy_step wholly c.args.row.now c.loop-i.delta c.loop-i.i _ (omega arith) (omega arith) c.index-row-i.is c.loop-i.invariant
-
-pub returns : goal.returns
-returns g c =
+made : (g : given.Over) (c : After-step_all g) → c.step_all.new.places ≡ cond (rows_fit c.args.row.now c.args.delta.now) (map wholly c.args.row.now) c.args.delta.now
+made g c =
     let row = c.args.row.now in
-    let fits = rows_fit_lem row c.args.delta.now c.if-row-ne-FIELD_LIMIT.false c.if-delta-ne-FIELD_LIMIT.false in
-    let done = copy-all wholly row c.loop-i.delta c.loop-i.i (omega arith) (omega arith) c.loop-i.invariant in
-    record {
-      answer = sym (ap answer_if fits);
-      changes = done ∙ sym (cond-true _ (map wholly row) c.args.delta.now fits);
-      means = λ _. ap (map (change_of g.R.Value.kind)) done ∙ wholly-means g.R.Value.kind row;
-    }
+    let delta = c.args.delta.now in
+    c.step_all.ensures.places ∙ onto-or wholly delta row ∙ ap (λ b. cond b (map wholly row) delta) (fit-swap delta row)
+
+pub returns-clause-answer : goal.returns-clause-answer
+returns-clause-answer g c = c.step_all.ensures.answer ∙ ap answer_if (fit-swap c.args.delta.now c.args.row.now)
+
+pub returns-clause-changes : goal.returns-clause-changes
+returns-clause-changes g c = made g (goal.at.returns-clause-changes g c).After-step_all
+
+pub returns-clause-means : goal.returns-clause-means
+returns-clause-means g c fits =
+    let k = g.R.Value.kind in
+    ap (map (change_of k)) (made g (goal.at.returns-clause-means g c).After-step_all ∙ cond-true _ _ _ fits) ∙ wholly-means k c.args.row.now

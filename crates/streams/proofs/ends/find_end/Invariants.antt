@@ -1,12 +1,15 @@
-use Rattle.std.proofs.Common.{◌≡◌, ◌+◌, ◌-◌, ◌≤◌, length, drop}
+use Rattle.std.proofs.Common.{◌≡◌, ◌+◌, ◌*◌, length, drop}
 use Rattle.tlcp.specs.Parts.{place_of}
 use Rattle.streams.specs.Ends.{line_end}
 use Rattle.streams.proofs.ends.find_end.Given as goal
 
-abbrev pub invariant-loop-at : goal.invariant-loop-at
-invariant-loop-at l =
-    (l.at + place_of line_end (drop l.at l.s) ≡ place_of line_end l.s)
-    × (l.at ≤ length l.s)
-
-abbrev pub decreases-loop-at : goal.decreases-loop-at
-decreases-loop-at l = length l.s - l.at
+-- no line ends in the parts that came
+abbrev pub invariant-loop-i : goal.invariant-loop-i
+invariant-loop-i l = record {
+  can_next : (goal.iterator-loop-i).can_next l.i-iterator;
+  is_finite : (goal.iterator-loop-i).is_finite l.i-iterator;
+  size : l.i-iterator.iter.size ≡ 16;
+  left : l.i-iterator.iter.rest.now ≡ drop (16 * l.i-iterator.count) l.s;
+  long : 16 * l.i-iterator.count + length l.i-iterator.iter.rest.now ≡ length l.s;
+  place : 16 * l.i-iterator.count + place_of line_end l.i-iterator.iter.rest.now ≡ place_of line_end l.s;
+}

@@ -1,4 +1,4 @@
-use Rattle.std.proofs.Common.{refl}
+use Rattle.std.proofs.Common.{refl, arith}
 use Rattle.tlcp.proofs.Places.{cut-here, cut-nowhere}
 use Rattle.streams.specs.Ends.{line_end}
 use Rattle.streams.proofs.ends.split_line.Goals as goal
@@ -10,5 +10,5 @@ returns-then-end-s c =
 
 pub returns-else-end-s : goal.returns-else-end-s
 returns-else-end-s c =
-    let h = cut-nowhere line_end c.args.s.now c.find_end-end.result c.find_end-end.ensures c.if-end-s.false in
+    let h = cut-nowhere line_end c.args.s.now (omega (arith, c.find_end-end.ensures, c.if-end-s.false)) in
     record { front = h.0; back = h.1; sizes = refl }

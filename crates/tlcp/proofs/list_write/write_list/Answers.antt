@@ -1,19 +1,28 @@
-use Rattle.std.proofs.Common.{◌≡◌, true, sym, ap, ◌∙◌, arith}
+use Rattle.std.proofs.Common.{◌≡◌, ◌-◌, ◌≤◌, true, length, take, drop, sym, ap, ◌∙◌, arith}
+use Rattle.std.proofs.lemmas.List.{take_rest}
 use Rattle.std.proofs.lemmas.Bool.{and_from, eq-eqb, le-leb, cond-true}
 use Rattle.row.specs.Limits.{field_limit}
-use Rattle.tlcp.specs.Written.{covers, end_or, placed_or}
-use Rattle.tlcp.proofs.Deltas.{delta-some, delta-part, read_back}
+use Rattle.tlcp.specs.Bounds.{text_of}
+use Rattle.tlcp.specs.Lists.{each_piped, written_list, written_values}
+use Rattle.tlcp.specs.Written.{changes_of, covers, end_or, placed_or}
+use Rattle.tlcp.proofs.Deltas.{delta-some, read_back}
+use Rattle.tlcp.proofs.list_write.write_list.Given as given
 use Rattle.tlcp.proofs.list_write.write_list.Goals as goal
+use Rattle.tlcp.proofs.list_write.write_list.Goals.{After-text}
+
+held : (g : given.Over) (c : After-text g) → c.text.result.now ≡ each_piped (written_values 0 (changes_of g.R.Value.kind c.args.delta.now c.args.fields))
+held g c = let list : text_of c.in_ok-list.list ≡ each_piped (written_values 0 (changes_of g.R.Value.kind c.args.delta.now c.args.fields)) = cc c.in_ok-list.ensures in c.text.ensures ∙ list
+
+some : (g : given.Over) (c : After-text g) → 1 ≤ length c.text.result.now
+some g c =
+    let one = delta-some g.R.Value.kind c.args.delta.now c.args.fields c.if-delta-ne-FIELD_LIMIT.false c.if-fields-gt-FIELD_LIMIT.false c.if-fields-eq0.false in
+    omega (arith, one, ap length (held g c))
 
 pub slice_bounds-put-count : goal.slice_bounds-put-count
-slice_bounds-put-count g c =
-    delta-some g.R.Value.kind c.args.delta.now c.args.fields c.if-delta-ne-FIELD_LIMIT.false c.if-fields-gt-FIELD_LIMIT.false
-    c.append_values-end.ensures.values c.if-fields-eq0.false
+slice_bounds-put-count g c = some g (goal.at.slice_bounds-put-count g c).After-text
 
 pub slice_bounds-put-start : goal.slice_bounds-put-start
-slice_bounds-put-start g c =
-    delta-some g.R.Value.kind c.args.delta.now c.args.fields c.if-delta-ne-FIELD_LIMIT.false c.if-fields-gt-FIELD_LIMIT.false
-    c.append_values-end.ensures.values c.if-fields-eq0.false
+slice_bounds-put-start g c = some g (goal.at.slice_bounds-put-start g c).After-text
 
 pub returns : goal.returns
 returns g c =
@@ -23,7 +32,8 @@ returns g c =
     let out = c.args.out.now in
     let long = eq-eqb _ field_limit c.if-delta-ne-FIELD_LIMIT.false in
     let few : covers fields ≡ true = and_from _ _ (le-leb 1 fields (omega arith)) (le-leb fields field_limit (omega arith)) in
-    let list = delta-part k delta fields c.if-delta-ne-FIELD_LIMIT.false c.if-fields-gt-FIELD_LIMIT.false c.append_values-end.ensures.values in
+    let text = c.text.result.now in
+    let list : take (length text - 1) (drop 1 text) ≡ written_list (changes_of k delta fields) = take_rest text 1 ∙ ap (drop 1) (held g (goal.at.returns g c).After-text) in
     record {
       answer = c.put.ensures.answer ∙ ap (λ t. end_or c.args.at t out) list ∙ sym (cond-true _ _ _ few) ∙ sym (cond-true _ _ _ long);
       bytes = c.put.ensures.bytes ∙ ap (λ t. placed_or c.args.at t out) list ∙ sym (cond-true _ _ _ few) ∙ sym (cond-true _ _ _ long);

@@ -8,24 +8,24 @@ pub returns-then-not-is_of : goal.returns-then-not-is_of
 returns-then-not-is_of c = record {
   bound = tt;
   value =
-      number_is c.args.low c.args.high c.args.s.now None (sym c.if-is_misshapen.ensures)
-      (sym c.loop-b.invariant.1 ∙ no_digit c.args.high c.loop-b.value c.args.s.now c.loop-b.b-index c.loop-b-test.true (sym c.if-not-is_of.ensures));
+      number_is c.args.limits.low c.args.limits.high c.args.s.now None (sym c.if-is_misshapen.ensures)
+      (sym c.loop-b.invariant.1 ∙ no_digit c.args.limits.high c.loop-b.value c.args.s.now c.loop-b.b-index c.loop-b-test.true (sym c.if-not-is_of.ensures));
 }
 
 pub returns-then-value-from : goal.returns-then-value-from
 returns-then-value-from c = record {
   bound = tt;
   value =
-      number_is c.args.low c.args.high c.args.s.now None (sym c.if-is_misshapen.ensures)
-      (sym c.loop-b.invariant.1 ∙ too-high c.args.high c.loop-b.value c.args.s.now c.loop-b.b-index c.loop-b-test.true (sym c.if-not-is_of.ensures) (omega arith));
+      number_is c.args.limits.low c.args.limits.high c.args.s.now None (sym c.if-is_misshapen.ensures)
+      (sym c.loop-b.invariant.1 ∙ too-high c.args.limits.high c.loop-b.value c.args.s.now c.loop-b.b-index c.loop-b-test.true (sym c.if-not-is_of.ensures) (omega arith));
 }
 
 pub loop-b-preserved : goal.loop-b-preserved
 loop-b-preserved c =
-    let within : c.loop-b.value * 10 + c.from.result ≤ c.args.high = omega arith in (
+    let within : c.loop-b.value * 10 + c.from.result ≤ c.args.limits.high = omega arith in (
       within,
-      ap (λ d. digits_from c.args.high (c.loop-b.value * 10 + d) (drop (c.loop-b.b-index + 1) c.args.s.now)) c.from.ensures
-          ∙ sym (digit-more c.args.high c.loop-b.value c.args.s.now c.loop-b.b-index c.loop-b-test.true (sym c.if-not-is_of.ensures) (omega arith))
+      ap (λ d. digits_from c.args.limits.high (c.loop-b.value * 10 + d) (drop (c.loop-b.b-index + 1) c.args.s.now)) c.from.ensures
+          ∙ sym (digit-more c.args.limits.high c.loop-b.value c.args.s.now c.loop-b.b-index c.loop-b-test.true (sym c.if-not-is_of.ensures) (omega arith))
           ∙ c.loop-b.invariant.1,
     )
 
@@ -33,16 +33,16 @@ pub returns-then-from-value : goal.returns-then-from-value
 returns-then-from-value c = record {
   bound = (omega arith, omega arith);
   value =
-      sym (cond-true _ (Some c.loop-b.value) None (le-leb c.args.low c.loop-b.value (omega arith)))
-      ∙ number_is c.args.low c.args.high c.args.s.now (Some c.loop-b.value) (sym c.if-is_misshapen.ensures)
-      (sym c.loop-b.invariant.1 ∙ digits-all c.args.high c.loop-b.value c.args.s.now c.loop-b.b-index c.loop-b-test.false);
+      sym (cond-true _ (Some c.loop-b.value) None (le-leb c.args.limits.low c.loop-b.value (omega arith)))
+      ∙ number_is c.args.limits.low c.args.limits.high c.args.s.now (Some c.loop-b.value) (sym c.if-is_misshapen.ensures)
+      (sym c.loop-b.invariant.1 ∙ digits-all c.args.limits.high c.loop-b.value c.args.s.now c.loop-b.b-index c.loop-b-test.false);
 }
 
 pub returns-else-from-value : goal.returns-else-from-value
 returns-else-from-value c = record {
   bound = tt;
   value =
-      sym (cond-false _ (Some c.loop-b.value) None (lt-leb c.args.low c.loop-b.value (omega arith)))
-      ∙ number_is c.args.low c.args.high c.args.s.now (Some c.loop-b.value) (sym c.if-is_misshapen.ensures)
-      (sym c.loop-b.invariant.1 ∙ digits-all c.args.high c.loop-b.value c.args.s.now c.loop-b.b-index c.loop-b-test.false);
+      sym (cond-false _ (Some c.loop-b.value) None (lt-leb c.args.limits.low c.loop-b.value (omega arith)))
+      ∙ number_is c.args.limits.low c.args.limits.high c.args.s.now (Some c.loop-b.value) (sym c.if-is_misshapen.ensures)
+      (sym c.loop-b.invariant.1 ∙ digits-all c.args.limits.high c.loop-b.value c.args.s.now c.loop-b.b-index c.loop-b-test.false);
 }

@@ -1,7 +1,6 @@
-use Rattle.std.proofs.Common.{rules}
 use Rattle.requests.proofs.Asking.{reads-asked}
 use Rattle.compose.proofs.ReadingBack.{reads-back}
 use Rattle.compose.proofs.request.RequestWriter.finish.Goals as goal
 
-pub returns : goal.returns
-returns c = record { len = search rules; bytes = search rules; pairs = search rules; reads = reads-back reads-asked }
+pub returns-clause-reads : goal.returns-clause-reads
+returns-clause-reads c = reads-back reads-asked

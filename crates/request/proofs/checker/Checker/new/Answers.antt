@@ -1,10 +1,9 @@
-use Rattle.std.proofs.Common.{ap}
-use Rattle.request.proofs.Fed.{cut-anywhere, prints-all}
+use Rattle.request.proofs.Sames.{shows_same}
+use Rattle.request.proofs.Spellings.{reads-spelled}
 use Rattle.request.proofs.checker.Checker.new.Goals as goal
 
-pub returns : goal.returns
-returns c = record {
-  state = ap (λ h. record { session = c.args.session; held = h; count = 0 }) c.new.ensures.items;
-  blocks = cut-anywhere;
-  prints = prints-all;
-}
+pub returns-clause-same : goal.returns-clause-same
+returns-clause-same c = shows_same
+
+pub returns-clause-back : goal.returns-clause-back
+returns-clause-back c = reads-spelled

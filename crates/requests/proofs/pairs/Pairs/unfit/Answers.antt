@@ -1,31 +1,16 @@
-use Rattle.std.proofs.Common.{◌≡◌, ℕ, ◌+◌, get_or, drop, Some, None, Option, sym, refl, ap, ◌∙◌, arith}
-use Rattle.std.proofs.lemmas.List.{at_drop_more, at_drop_all}
+use Rattle.std.proofs.Common.{sym, ◌∙◌, rules, tests}
+use Rattle.std.proofs.lemmas.Iterator.{YieldsList-from_slice}
+use Rattle.std.proofs.lemmas.Iterator.Consumers.{YieldsList-from_filter_map, min_from_yields_List}
+use Rattle.std.proofs.lemmas.Iterator.Adapters.{option_map_id}
 use Rattle.requests.specs.Read.{pairs_in}
-use Rattle.requests.specs.Requests.{leftmost, parameters, unfit, unfit_of}
-use Rattle.requests.specs.declared.name.Parameter.TheVariants.{Cid}
+use Rattle.requests.specs.Requests.{parameters, unfit_of}
+use Rattle.requests.proofs.Least.{unfit-least}
 use Rattle.requests.proofs.pairs.Pairs.unfit.Goals as goal
-
-leftmost-assoc : (a b c : Option ℕ) → leftmost a (leftmost b c) ≡ leftmost (leftmost a b) c
-leftmost-assoc None b c = refl
-leftmost-assoc (Some x) None c = refl
-leftmost-assoc (Some x) (Some y) None = refl
-leftmost-assoc (Some x) (Some y) (Some z) = ap Some (omega arith)
-
-leftmost-none : (a : Option ℕ) → leftmost a None ≡ a
-leftmost-none None = refl
-leftmost-none (Some x) = refl
-
-pub loop-p-preserved : goal.loop-p-preserved
-loop-p-preserved c =
-    let ps = pairs_in c.args.self.now in
-    let taken = c.args.taken.now in
-    let first = c.loop-p.first in
-    let behind = unfit taken ps (drop (c.loop-p.p-index + 1) parameters) in
-    let here = unfit_of taken ps (get_or parameters c.loop-p.p-index Cid) in
-    c.loop-p.invariant ∙ ap (leftmost first) (at_drop_more (unfit taken ps) parameters c.loop-p.p-index Cid c.loop-p-test.true)
-    ∙ leftmost-assoc first here behind
-    ∙ ap (λ o. leftmost o behind) (sym (c.leftmost_of-first.ensures ∙ ap (leftmost first) c.unfit_at.ensures))
 
 pub returns : goal.returns
 returns c =
-    sym (c.loop-p.invariant ∙ ap (leftmost c.loop-p.first) (at_drop_all (unfit c.args.taken.now (pairs_in c.args.self.now)) parameters c.loop-p.p-index c.loop-p-test.false) ∙ leftmost-none c.loop-p.first)
+    let taken = c.args.taken.now in
+    let ps = pairs_in c.args.self.now in
+    sym (option_map_id c.min.result)
+    ∙ min_from_yields_List c.filter_map.result c.min.result c.min.ensures.ran (YieldsList-from_filter_map _ (unfit_of taken ps) (YieldsList-from_slice parameters cc) c.filter_map.ensures.closure (λ x r q k. search (rules, tests)))
+    ∙ sym (unfit-least taken ps parameters)

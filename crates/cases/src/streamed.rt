@@ -1,0 +1,73 @@
+// A stream of lines, cut into blocks, and answered from a reader to a writer.
+ghost use Rattle.std.specs.Prelude.{ℕ, [], ◌∷◌};
+
+use std::io;
+use std::test::*;
+use streams::{Hear, Stream, answer_all};
+
+// Repeats each line.
+#[derive(Drop)]
+struct Echo;
+
+impl Hear for Echo {
+    ghost LIMIT = { 6 };
+
+    const LIMIT: usize = 6;
+
+    ghost hearing = { record { next = λ e _. e; answer = λ _ line. 32 ∷ line; closing = λ _. 46 ∷ [] } };
+
+    fn hear(&mut self, line: &[u8], out: &mut Vec<u8>) -> io::Result<()> {
+        out.extend_from_slice(b" ")?;
+        out.extend_from_slice(line)?;
+        Ok(())
+    }
+
+    fn close(&self, out: &mut Vec<u8>) -> io::Result<()> {
+        out.extend_from_slice(b".")?;
+        Ok(())
+    }
+}
+
+// Lines end with LF or CR LF, an empty one counts, of a long one six bytes are looked at, and the last needs no end.
+const INPUT: &[u8] = b"ab\r\nc\n\nseventh\r\nlast\r";
+
+const OUTPUT: &[u8] = b"1 ab\n2 c\n3 \n4 sevent\n5 last\r\n.";
+
+// The input, cut in several ways.
+const CUTS: [&[&[u8]]; 4] = [
+    &[b"ab\r\nc\n\nseventh\r\nlast\r"],
+    &[b"ab\r", b"\nc\n\nseven", b"th\r\nlast\r"],
+    &[
+        b"a",
+        b"b",
+        b"\r",
+        b"\n",
+        b"c\n",
+        b"\nseventh\r\nlas",
+        b"t\r",
+    ],
+    &[b"ab\r\n", b"c\n", b"\n", b"seventh\r\n", b"last\r"],
+];
+
+#[test]
+fn streamed_in_blocks(rt: HostRuntime) -> Result<(), Fail> {
+    for (i, blocks) in CUTS.iter().enumerate() {
+        let mut stream = Stream::new(rt.alloc(), Echo);
+        let mut out = Vec::new(rt.alloc());
+        for block in *blocks {
+            stream.feed(block, &mut out)?;
+        }
+        stream.finish(&mut out)?;
+        assert!(rt; out.as_slice() == OUTPUT, "cut {i}");
+    }
+    Ok(())
+}
+
+#[test]
+fn streamed_from_a_reader(rt: HostRuntime) -> Result<(), Fail> {
+    let mut input = INPUT;
+    let mut output = Vec::new(rt.alloc());
+    answer_all(&rt, Echo, &mut input, &mut output)?;
+    assert!(rt; output.as_slice() == OUTPUT);
+    Ok(())
+}

@@ -1,0 +1,100 @@
+// The lines of a stream, cut from its blocks and heard one after another.
+ghost use Rattle.std.specs.Prelude.{◌≡◌, [], OnOk};
+ghost use Rattle.streams.specs.Feeding.{fresh, keep, hear_line, ended, fed, last_line, finished, CutAnywhere, PrintsAll};
+ghost use Rattle.streams.specs.Streams.{Fed, HeardLine, state_of, state_with};
+
+use crate::ends::split_line;
+use crate::hear::Hear;
+use crate::held::{front, hold, without_cr};
+use crate::print::push_number;
+use std::alloc::Global;
+use std::io;
+
+// What hears the lines, and how many it has heard.
+#[derive(Drop)]
+struct Counted<H> {
+    listener: H,
+    count: u64,
+}
+
+impl<H: Hear> Counted<H> {
+    // Hears a line, given without its end, and appends its number and the answer.
+    fn hear(&mut self, line: &[u8], out: &mut Vec<u8>) -> io::Result<()>
+        ensures { OnOk result (HeardLine (hear_line H.hearing (state_with self.old []) line.now) self.new out.old.items out.new.items) }
+    {
+        self.count = self.count.saturating_add(1);
+        push_number(out, self.count)?;
+        self.listener.hear(line, out)?;
+        out.extend_from_slice(b"\n")?;
+        Ok(())
+    }
+}
+
+// What hears the lines, and the bytes of a line that has not ended.
+#[derive(Drop)]
+pub struct Stream<H> {
+    counted: Counted<H>,
+    held: Vec<u8>,
+}
+
+impl<H: Hear> Stream<H> {
+    // A stream before its first byte.
+    pub fn new(heap: Global, listener: H) -> Stream<H>
+        ensures state { state_of result ≡ fresh listener }
+        ensures blocks { CutAnywhere H.hearing }
+        ensures prints { PrintsAll H.hearing }
+    {
+        Stream {
+            counted: Counted { listener, count: 0 },
+            held: Vec::new(heap),
+        }
+    }
+
+    // Hears the line whose last bytes these are. One that came whole need not be held.
+    fn end_line(&mut self, bytes: &[u8], out: &mut Vec<u8>) -> io::Result<()>
+        ensures { OnOk result (Fed (ended H.hearing (keep H.hearing (state_of self.old) bytes.now)) self.new out.old.items out.new.items) }
+    {
+        if self.held.is_empty() {
+            return self.counted.hear(without_cr(front(bytes, H::LIMIT)), out);
+        }
+        hold(&mut self.held, bytes, H::LIMIT)?;
+        self.counted.hear(without_cr(&self.held), out)?;
+        self.held.clear();
+        Ok(())
+    }
+
+    // Takes some bytes of the input, and appends the answers to the lines that end in them.
+    pub fn feed(&mut self, block: &[u8], out: &mut Vec<u8>) -> io::Result<()>
+        ensures { OnOk result (Fed (fed H.hearing (state_of self.old) block.now) self.new out.old.items out.new.items) }
+    {
+        let mut left = block;
+        loop {
+            let (line, rest) = split_line(left);
+            let Some(rest) = rest else {
+                hold(&mut self.held, line, H::LIMIT)?;
+                return Ok(());
+            };
+            self.end_line(line, out)?;
+            left = rest;
+        }
+    }
+
+    // Hears a last line that has no end, if there is one.
+    fn last_line(&mut self, out: &mut Vec<u8>) -> io::Result<()>
+        ensures { OnOk result (Fed (last_line H.hearing (state_of self.old)) self.new out.old.items out.new.items) }
+    {
+        if !self.held.is_empty() {
+            self.counted.hear(&self.held, out)?;
+            self.held.clear();
+        }
+        Ok(())
+    }
+
+    // The input has ended: answers a last line that has no end, and appends what is said at the end.
+    pub fn finish(&mut self, out: &mut Vec<u8>) -> io::Result<()>
+        ensures { OnOk result (Fed (finished H.hearing (state_of self.old)) self.new out.old.items out.new.items) }
+    {
+        self.last_line(out)?;
+        self.counted.listener.close(out)
+    }
+}

@@ -1,0 +1,40 @@
+-- Bytes up to a limit, and bytes appended to them where there is room.
+use Rattle.std.specs.Prelude.{◌≡◌, ℕ, ◌+◌, Bool, cond, List, ◌++◌, length, take, Ok, Err, Result, ◌==◌, nat_le}
+use Rattle.row.specs.Kinds.{Kind}
+use Rattle.row.specs.Limits.{field_limit}
+use Rattle.row.specs.Records.{memory_refusal}
+use Rattle.row.specs.declared.change.Change.{Change}
+use Rattle.row.specs.declared.fault.Refusal.{Refusal}
+use Rattle.tlcp.specs.Lists.{uncovered, written_list}
+use Rattle.tlcp.specs.Written.{changes_of, covers, no_room}
+use Rattle.tlcp.specs.declared.bounded.Bounded.{Bounded}
+
+abbrev pub text_of : {N : ℕ} → Bounded N → List ℕ
+text_of b = take b.len b.bytes
+
+abbrev pub has_room : ℕ → List ℕ → List ℕ → Bool
+has_room limit s t = nat_le (length s + length t) limit
+
+abbrev pub room_answer : ℕ → List ℕ → List ℕ → Result (Unit {0}) Refusal
+room_answer limit s t = cond (has_room limit s t) (Ok tt) (Err no_room)
+
+-- s and then t, if there is room for both
+abbrev pub extended : ℕ → List ℕ → List ℕ → List ℕ
+extended limit s t = cond (has_room limit s t) (s ++ t) s
+
+-- t was appended to s, which gave u
+pub record Adds (s t : List ℕ) (r : Result (Unit {0}) Refusal) (u : List ℕ) : Type 0 where
+  pub done : r ≡ Ok tt
+  pub text : u ≡ s ++ t
+
+module _ {R : Type 0} (k : Kind R) where
+  -- the same of the changes of a delta's first fields, as a list
+  abbrev pub list_room_answer : ℕ → List ℕ → List (Change R) → ℕ → Result (Unit {0}) Refusal
+  list_room_answer limit s delta fields =
+      let answer = room_answer limit s (written_list (changes_of k delta fields)) in
+      cond (length delta == field_limit) (cond (covers fields) answer (Err uncovered)) (Err memory_refusal)
+
+  abbrev pub list_extended : ℕ → List ℕ → List (Change R) → ℕ → List ℕ
+  list_extended limit s delta fields =
+      let longer = extended limit s (written_list (changes_of k delta fields)) in
+      cond (length delta == field_limit) (cond (covers fields) longer s) s
