@@ -1,7 +1,7 @@
 // A stream of lines, cut into blocks, and answered from a reader to a writer.
 ghost use Rattle.std.specs.Prelude.{ℕ, [], ◌∷◌};
 
-use std::io;
+use std::alloc::AllocError;
 use std::test::*;
 use streams::{Hear, Stream, answer_all};
 
@@ -16,13 +16,13 @@ impl Hear for Echo {
 
     ghost hearing = { record { next = λ e _. e; answer = λ _ line. 32 ∷ line; closing = λ _. 46 ∷ [] } };
 
-    fn hear(&mut self, line: &[u8], out: &mut Vec<u8>) -> io::Result<()> {
+    fn hear(&mut self, line: &[u8], out: &mut Vec<u8>) -> Result<(), AllocError> {
         out.extend_from_slice(b" ")?;
         out.extend_from_slice(line)?;
         Ok(())
     }
 
-    fn close(&self, out: &mut Vec<u8>) -> io::Result<()> {
+    fn close(&self, out: &mut Vec<u8>) -> Result<(), AllocError> {
         out.extend_from_slice(b".")?;
         Ok(())
     }

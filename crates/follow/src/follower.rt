@@ -5,7 +5,7 @@ ghost use Rattle.follow.specs.Feeding.{held_limit, hearing, opened};
 use crate::print::push_answer;
 use crate::rows::push_rows;
 use row::{Cell, Change, FIELD_LIMIT, Mark, TextRecord, Value};
-use std::io;
+use std::alloc::AllocError;
 use streams::Hear;
 use tlcp::LINE_LIMIT;
 use viewer::{CELL_LIMIT, Viewer};
@@ -47,13 +47,13 @@ impl Hear for Follower {
 
     ghost hearing = { hearing };
 
-    fn hear(&mut self, line: &[u8], out: &mut Vec<u8>) -> io::Result<()> {
+    fn hear(&mut self, line: &[u8], out: &mut Vec<u8>) -> Result<(), AllocError> {
         let answer = self.viewer.hear(line, &mut self.cells, &mut self.delta);
         push_answer(out, answer)
     }
 
     // The open rows.
-    fn close(&self, out: &mut Vec<u8>) -> io::Result<()> {
+    fn close(&self, out: &mut Vec<u8>) -> Result<(), AllocError> {
         push_rows(out, &self.viewer, &self.cells)
     }
 }

@@ -3,17 +3,21 @@ ghost use Rattle.std.specs.Prelude.{◌≡◌, ◌++◌, OnOk};
 ghost use Rattle.follow.specs.Answers.{answer_text};
 
 use row::Refusal;
-use std::io::{self, Write};
+use std::alloc::AllocError;
+use streams::push_refusal;
 use viewer::Heard;
 
 // Appends an answer. Most lines are taken, and `write!` would double the time that it takes to say so.
-pub(crate) fn push_answer(out: &mut Vec<u8>, answer: Result<Heard, Refusal>) -> io::Result<()>
+pub(crate) fn push_answer(
+    out: &mut Vec<u8>,
+    answer: Result<Heard, Refusal>,
+) -> Result<(), AllocError>
     ensures { OnOk result (out.new.items ≡ out.old.items ++ answer_text answer) }
 {
     match answer {
         Ok(Heard::Taken) => out.extend_from_slice(b" ok")?,
         Ok(Heard::Passed) => out.extend_from_slice(b" passed")?,
-        Err(refusal) => write!(out, " no {refusal}")?,
+        Err(refusal) => push_refusal(out, refusal)?,
     }
     Ok(())
 }

@@ -5,12 +5,12 @@ ghost use Rattle.viewer.specs.Limits.{cell_limit};
 ghost use Rattle.follow.specs.Answers.{list_text, row_text, rows_text};
 
 use row::{Cell, Change, FIELD_LIMIT, Mark, TextRecord, Value, whole_row};
-use std::io::{self, Write};
+use std::alloc::AllocError;
 use tlcp::{Bounded, LIST_LIMIT};
 use viewer::{Entry, Viewer};
 
 // Appends the values of a row's first fields.
-fn push_list(out: &mut Vec<u8>, row: &[Cell<TextRecord>], fields: usize) -> io::Result<()>
+fn push_list(out: &mut Vec<u8>, row: &[Cell<TextRecord>], fields: usize) -> Result<(), AllocError>
     requires { length row.now ≡ field_limit }
     ensures { OnOk result (out.new.items ≡ out.old.items ++ list_text row.now fields) }
 {
@@ -28,14 +28,15 @@ fn push_list(out: &mut Vec<u8>, row: &[Cell<TextRecord>], fields: usize) -> io::
 }
 
 // Appends an open entry's row as a whole U line.
-fn push_row(out: &mut Vec<u8>, entry: Entry, row: &[Cell<TextRecord>]) -> io::Result<()>
+fn push_row(out: &mut Vec<u8>, entry: Entry, row: &[Cell<TextRecord>]) -> Result<(), AllocError>
     requires { length row.now ≡ field_limit }
     ensures { OnOk result (out.new.items ≡ out.old.items ++ row_text entry row.now) }
 {
     if let Some(fields) = entry.fields {
-        write!(out, "U,{},1,", entry.id)?;
+        let front = format!(in *out.allocator(); "U,{},1,", entry.id)?;
+        out.extend_from_slice(front.as_bytes())?;
         push_list(out, row, fields)?;
-        writeln!(out)?;
+        out.extend_from_slice(b"\n")?;
     }
     Ok(())
 }
@@ -45,7 +46,7 @@ pub(crate) fn push_rows(
     out: &mut Vec<u8>,
     viewer: &Viewer,
     cells: &[Cell<TextRecord>],
-) -> io::Result<()>
+) -> Result<(), AllocError>
     requires { length cells.now ≡ cell_limit }
     ensures { OnOk result (out.new.items ≡ out.old.items ++ rows_text viewer.now.entries cells.now) }
 {

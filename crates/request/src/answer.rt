@@ -9,8 +9,8 @@ use crate::print::push_spelled;
 use crate::unspell::unspell;
 use requests::{REQUEST_LIMIT, read_request};
 use row::{Fault, Refusal};
-use std::io::{self, Write};
-use streams::front;
+use std::alloc::AllocError;
+use streams::{front, push_refusal};
 
 // The bytes of a line, without its end.
 pub const SPELLED_LIMIT: usize = 8192;
@@ -29,16 +29,16 @@ fn check(line: &[u8], session: u32, text: &mut [u8]) -> Result<usize, Refusal>
 }
 
 // Appends the answer to a line, given without its end.
-pub(crate) fn push_answer(out: &mut Vec<u8>, line: &[u8], session: u32) -> io::Result<()>
+pub(crate) fn push_answer(out: &mut Vec<u8>, line: &[u8], session: u32) -> Result<(), AllocError>
     ensures { OnOk result (out.new.items ≡ out.old.items ++ answer_text (checked session line.now)) }
 {
     let mut text = [0u8; REQUEST_LIMIT];
     match check(line, session, &mut text) {
         Ok(len) => {
-            write!(out, " ok ")?;
+            out.extend_from_slice(b" ok ")?;
             push_spelled(out, front(&text, len))?;
         }
-        Err(refusal) => write!(out, " no {refusal}")?,
+        Err(refusal) => push_refusal(out, refusal)?,
     }
     Ok(())
 }

@@ -6,7 +6,7 @@ ghost use Rattle.request.specs.Same.{ShowsSame};
 ghost use Rattle.request.specs.Spelling.{ReadsSpelled};
 
 use crate::answer::{SPELLED_LIMIT, push_answer};
-use std::io;
+use std::alloc::AllocError;
 use streams::Hear;
 
 // The session whose requests are checked.
@@ -33,11 +33,11 @@ impl Hear for Checker {
 
     ghost hearing = { hearing };
 
-    fn hear(&mut self, line: &[u8], out: &mut Vec<u8>) -> io::Result<()> {
+    fn hear(&mut self, line: &[u8], out: &mut Vec<u8>) -> Result<(), AllocError> {
         push_answer(out, line, self.session)
     }
 
-    fn close(&self, _out: &mut Vec<u8>) -> io::Result<()> {
+    fn close(&self, _out: &mut Vec<u8>) -> Result<(), AllocError> {
         Ok(())
     }
 }

@@ -11,5 +11,6 @@ mod stream;
 pub use ends::split_line;
 pub use hear::Hear;
 pub use held::{front, hold, without_cr};
+pub use print::push_refusal;
 pub use run::answer_all;
 pub use stream::Stream;

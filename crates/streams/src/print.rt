@@ -1,14 +1,25 @@
-// Numbers, as they are printed.
-ghost use Rattle.std.specs.Prelude.{◌≡◌, ◌++◌, decimal, OnOk};
+// Numbers and refusals, as they are printed.
+ghost use Rattle.std.specs.Prelude.{◌≡◌, ◌++◌, codes, decimal, OnOk};
+ghost use Rattle.row.specs.Faults.{printed};
 
 use itoa::Buffer;
-use std::io;
+use row::Refusal;
+use std::alloc::AllocError;
 
 // Appends a number in decimal. `write!` takes 200 instructions more for a line than this does, and `follow` then is
 // slower than its plain counterpart.
-pub(crate) fn push_number(out: &mut Vec<u8>, n: u64) -> io::Result<()>
+pub(crate) fn push_number(out: &mut Vec<u8>, n: u64) -> Result<(), AllocError>
     ensures { OnOk result (out.new.items ≡ out.old.items ++ decimal n) }
 {
     out.extend_from_slice(Buffer::new().format(n).as_bytes())?;
+    Ok(())
+}
+
+// Appends a refusal as the answer to a line.
+pub fn push_refusal(out: &mut Vec<u8>, refusal: Refusal) -> Result<(), AllocError>
+    ensures { OnOk result (out.new.items ≡ out.old.items ++ (codes " no " ++ printed refusal)) }
+{
+    let text = format!(in *out.allocator(); " no {refusal}")?;
+    out.extend_from_slice(text.as_bytes())?;
     Ok(())
 }

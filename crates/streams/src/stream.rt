@@ -7,8 +7,7 @@ use crate::ends::split_line;
 use crate::hear::Hear;
 use crate::held::{front, hold, without_cr};
 use crate::print::push_number;
-use std::alloc::Global;
-use std::io;
+use std::alloc::{AllocError, Global};
 
 // What hears the lines, and how many it has heard.
 #[derive(Drop)]
@@ -19,7 +18,7 @@ struct Counted<H> {
 
 impl<H: Hear> Counted<H> {
     // Hears a line, given without its end, and appends its number and the answer.
-    fn hear(&mut self, line: &[u8], out: &mut Vec<u8>) -> io::Result<()>
+    fn hear(&mut self, line: &[u8], out: &mut Vec<u8>) -> Result<(), AllocError>
         ensures { OnOk result (HeardLine (hear_line H.hearing (state_with self.old []) line.now) self.new out.old.items out.new.items) }
     {
         self.count = self.count.saturating_add(1);
@@ -51,7 +50,7 @@ impl<H: Hear> Stream<H> {
     }
 
     // Hears the line whose last bytes these are. One that came whole need not be held.
-    fn end_line(&mut self, bytes: &[u8], out: &mut Vec<u8>) -> io::Result<()>
+    fn end_line(&mut self, bytes: &[u8], out: &mut Vec<u8>) -> Result<(), AllocError>
         ensures { OnOk result (Fed (ended H.hearing (keep H.hearing (state_of self.old) bytes.now)) self.new out.old.items out.new.items) }
     {
         if self.held.is_empty() {
@@ -64,7 +63,7 @@ impl<H: Hear> Stream<H> {
     }
 
     // Takes some bytes of the input, and appends the answers to the lines that end in them.
-    pub fn feed(&mut self, block: &[u8], out: &mut Vec<u8>) -> io::Result<()>
+    pub fn feed(&mut self, block: &[u8], out: &mut Vec<u8>) -> Result<(), AllocError>
         ensures { OnOk result (Fed (fed H.hearing (state_of self.old) block.now) self.new out.old.items out.new.items) }
     {
         let mut left = block;
@@ -80,7 +79,7 @@ impl<H: Hear> Stream<H> {
     }
 
     // Hears a last line that has no end, if there is one.
-    fn last_line(&mut self, out: &mut Vec<u8>) -> io::Result<()>
+    fn last_line(&mut self, out: &mut Vec<u8>) -> Result<(), AllocError>
         ensures { OnOk result (Fed (last_line H.hearing (state_of self.old)) self.new out.old.items out.new.items) }
     {
         if !self.held.is_empty() {
@@ -91,7 +90,7 @@ impl<H: Hear> Stream<H> {
     }
 
     // The input has ended: answers a last line that has no end, and appends what is said at the end.
-    pub fn finish(&mut self, out: &mut Vec<u8>) -> io::Result<()>
+    pub fn finish(&mut self, out: &mut Vec<u8>) -> Result<(), AllocError>
         ensures { OnOk result (Fed (finished H.hearing (state_of self.old)) self.new out.old.items out.new.items) }
     {
         self.last_line(out)?;
