@@ -1,9 +1,9 @@
 -- A test at each element of a list, and a list with zeros behind it.
-use Rattle.std.specs.Prelude.{◌≡◌, ℕ, zero, suc, ◌+◌, ◌-◌, ◌<◌, ◌≤◌, Bool, true, false, cond, List, [], ◌∷◌, ◌++◌, length, take, drop, set, replicate, Some, None, ◌==◌, ◌≢◌, nat_le, slice_index, slice_index_or, slice_set, refl}
+use Rattle.std.specs.Prelude.{◌≡◌, ℕ, zero, suc, ◌+◌, ◌-◌, ◌<◌, ◌≤◌, Bool, true, false, cond, List, [], ◌∷◌, ◌++◌, length, take, drop, set, replicate, Some, None, ◌==◌, nat_le, slice_index, slice_index_or, slice_set, refl}
 use Rattle.std.proofs.Common.{sym, ap, ◌∙◌, ⊎_elim, append_assoc, le_of_suc-le-suc, not-suc-le-zero, arith}
 use Rattle.std.specs.List.{AllByRecursion}
-use Rattle.std.proofs.lemmas.List.{get_or-drop, length-drop, length-take, take-append-drop, take_more, take_all, drop_all, drop-append-le, drop_at, set_at, length-append, length-replicate, length-take-le, take_at}
-use Rattle.std.proofs.lemmas.Bool.{lt-ltb, both_ways, and_parts, and_from, cases_lt, cases_Bool, ltb-true, leb-true, eqb-true, le-leb, eq-eqb, cond-true, cond-false, cond_both}
+use Rattle.std.proofs.lemmas.List.{length-drop, length-take, take-append-drop, take_more, drop_at, set_at, length-append, length-replicate, length-take-le, take_at}
+use Rattle.std.proofs.lemmas.Bool.{lt-ltb, both_ways, and_parts, and_from, cases_Bool, ltb-true, leb-true, eqb-true, le-leb, eq-eqb, cond-true, cond-false, cond_both}
 use Rattle.row.specs.Texts.{every, is_byte, is_zero, padded, text_allowed, text_sound, text_whole, text_of, text_record, text_kind}
 use Rattle.row.specs.Limits.{text_limit}
 use Rattle.row.specs.Kinds.{Kind, Lawful, Represents}
@@ -38,19 +38,6 @@ every-replicate p (suc n) x e = and_from (p x) (every p (replicate n x)) e (ever
 pub every_more : (p : ℕ → Bool) (xs : List ℕ) (i x : ℕ) → i < length xs → x ≡ slice_index xs i → every p (take i xs) ≡ true → p x ≡ true → every p (take (i + 1) xs) ≡ true
 every_more p xs i x h read e f =
     ap (every p) (take_more xs i 0 h) ∙ every_append p (take i xs) (slice_index xs i ∷ []) e (and_from _ true (ap p (sym read) ∙ f) refl)
-
--- the same from the place n on
-pub every-from-more : (p : ℕ → Bool) (xs : List ℕ) (n i x : ℕ) → i < length xs → x ≡ slice_index xs i → every p (drop n (take i xs)) ≡ true → (n ≤ i → p x ≡ true) → every p (drop n (take (i + 1) xs)) ≡ true
-every-from-more p xs n i x h read e f =
-    let long : length (take i xs) ≡ i = length-take-le i xs (omega arith) in
-    ap (λ l. every p (drop n l)) (take_more xs i 0 h)
-    ∙ ⊎_elim
-    (λ below.
-    ap (every p) (drop_all n (take i xs ++ slice_index xs i ∷ []) (let l = length-append (take i xs) (slice_index xs i ∷ []) in omega arith)))
-    (λ above.
-    ap (every p) (drop-append-le n (take i xs) (slice_index xs i ∷ []) (omega arith))
-    ∙ every_append p (drop n (take i xs)) (slice_index xs i ∷ []) e (and_from _ true (ap p (sym read) ∙ f above) refl))
-    (cases_lt i n)
 
 pub every-all : (p : ℕ → Bool) (P : ℕ → Type 0) → ((x : ℕ) → p x ≡ true → P x) → (t : List ℕ) → every p t ≡ true → AllByRecursion P t
 every-all p P f [] e = tt
@@ -93,21 +80,9 @@ padded-more n xs i x h room read =
     ∙ ap (λ m. take (i + 1) xs ++ replicate (n - m) 0) (sym longer)
 
 -- the bytes and the length of a sound text
-pub sound-from : (bytes : List ℕ) (len i : ℕ) → len ≤ 32 → length bytes ≤ i → every is_byte (take i bytes) ≡ true → every is_zero (drop len (take i bytes)) ≡ true → text_sound (record { bytes = bytes; len = len }) ≡ true
-sound-from bytes len i small all e f =
-    let whole = take_all i bytes all in
-    and_from _ _ (le-leb len 32 small) (and_from _ _ (ap (every is_byte) (sym whole) ∙ e) (ap (λ l. every is_zero (drop len l)) (sym whole) ∙ f))
-
-zero-behind : (r : TextRecord) (i : ℕ) → i < length r.bytes → r.len ≤ i → text_sound r ≡ true → slice_index r.bytes i ≡ 0
-zero-behind r i h above e =
-    let zeros = (and_parts (every is_byte r.bytes) (every is_zero (drop r.len r.bytes)) (and_parts (nat_le r.len 32) _ e).1).1 in
-    let k : r.len + (i - r.len) ≡ i = omega arith in
-    let inside : i - r.len < length (drop r.len r.bytes) = simp length-drop (omega arith) in
-    let here = eqb-true (slice_index (drop r.len r.bytes) (i - r.len)) 0 (every-at is_zero (drop r.len r.bytes) (i - r.len) 0 inside zeros) in
-    ap (λ j. slice_index r.bytes j) (sym k) ∙ sym (get_or-drop r.len r.bytes (i - r.len) 0) ∙ here
-
-pub not_sound : (r : TextRecord) (i : ℕ) → i < length r.bytes → r.len ≤ i → (slice_index r.bytes i ≢ 0) → text_sound r ≡ false
-not_sound r i h above ne = ⊎_elim (λ e. absurd (ne (zero-behind r i h above e))) (λ e. e) (cases_Bool (text_sound r))
+pub sound-from : (r : TextRecord) → r.len ≤ text_limit → ((i : ℕ) → slice_index r.bytes i < 256) → every is_zero (drop r.len r.bytes) ≡ true → text_sound r ≡ true
+sound-from r small bytes zeros =
+    and_from _ _ (le-leb r.len text_limit small) (and_from _ _ (bytes-every r.bytes bytes) zeros)
 
 pub allowed-from : (t : List ℕ) → length t ≤ 32 → every is_byte t ≡ true → text_allowed t ≡ true
 allowed-from t small e = and_from _ _ (le-leb (length t) 32 small) e
@@ -177,14 +152,12 @@ pub some-from-cond : {X : Type 0} (b : Bool) (x y : X) → Some x ≡ cond b (So
 some-from-cond true x y e = (refl, cc)
 some-from-cond false x y e = absurd (let z : ◌≡◌ {A = ℕ} 0 1 = cc in omega arith)
 
-pub text-written : (r s : TextRecord) → Some r ≡ cond (text_sound s) (Some s) None → length r.bytes ≡ 32 → (r.len ≡ length (text_of s)) × (r.bytes ≡ padded 32 (text_of s))
-text-written r s e long =
-    let h = some-from-cond (text_sound s) r s e in
-    let parts = and_parts (nat_le s.len 32) _ h.0 in
-    let small = leb-true s.len 32 parts.0 in
-    let zeros = (and_parts (every is_byte s.bytes) (every is_zero (drop s.len s.bytes)) parts.1).1 in
-    let there : length s.bytes ≡ 32 = ap (λ t. length t.bytes) (sym h.1) ∙ long in
-    let is : text_of s ≡ take s.len s.bytes = cond-true (text_sound s) (take s.len s.bytes) [] h.0 in (
-      ap (λ t. t.len) h.1 ∙ sym (length-take-le s.len s.bytes (omega arith)) ∙ ap length (sym is),
-      ap (λ t. t.bytes) h.1 ∙ padded-front s.len 32 s.bytes small there zeros ∙ ap (padded 32) (sym is),
+pub text-written : (r : TextRecord) → text_sound r ≡ true → length r.bytes ≡ text_limit → (r.len ≡ length (text_of r)) × (r.bytes ≡ padded text_limit (text_of r))
+text-written r e long =
+    let h = and_parts (nat_le r.len text_limit) _ e in
+    let small = leb-true r.len text_limit h.0 in
+    let zeros = (and_parts (every is_byte r.bytes) (every is_zero (drop r.len r.bytes)) h.1).1 in
+    let is : text_of r ≡ take r.len r.bytes = cond-true (text_sound r) (take r.len r.bytes) [] e in (
+      sym (length-take-le r.len r.bytes (omega arith)) ∙ ap length (sym is),
+      padded-front r.len text_limit r.bytes small long zeros ∙ ap (padded text_limit) (sym is),
     )

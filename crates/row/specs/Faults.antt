@@ -1,5 +1,5 @@
 -- The number of each refusal, and how a refusal is printed.
-use Rattle.std.specs.Prelude.{ℕ, List, ◌∷◌, ◌++◌, decimal}
+use Rattle.std.specs.Prelude.{ℕ, ◌+◌, ◌-◌, ◌^◌, List, ◌∷◌, ◌++◌, decimal, min}
 use Rattle.row.specs.declared.fault.Fault.{Fault}
 use Rattle.row.specs.declared.fault.Refusal.{Refusal}
 use Rattle.row.specs.declared.fault.Fault.TheVariants.{Memory, Shape, Escape, Number, Unknown, Parts, Cover, Value, State, Absent, Order, Subscribed, Full, Wire, Nothing, Length}
@@ -25,3 +25,7 @@ number_of Length = 16
 -- the fault's number, a space and the place
 abbrev pub printed : Refusal → List ℕ
 printed r = decimal (number_of r.fault) ++ 32 ∷ decimal r.place
+
+-- the refusal of a part that begins at a place of a text, as one of the text; places count up to what 64 bits hold
+abbrev pub moved : ℕ → Refusal → Refusal
+moved start r = record { fault = r.fault; place = min (start + r.place) (2 ^ 64 - 1) }

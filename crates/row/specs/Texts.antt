@@ -1,5 +1,5 @@
 -- The text kind: a value is any text of at most `text_limit` bytes.
-use Rattle.std.specs.Prelude.{ℕ, ◌-◌, Bool, true, cond, ◌&&◌, List, [], ◌∷◌, ◌++◌, length, take, drop, replicate, ◌==◌, nat_le, nat_lt}
+use Rattle.std.specs.Prelude.{ℕ, ◌-◌, Bool, cond, ◌&&◌, List, [], ◌++◌, length, take, drop, replicate, ◌==◌, nat_le, nat_lt}
 use Rattle.std.specs.List.{list_all}
 use Rattle.row.specs.Limits.{text_limit}
 use Rattle.row.specs.Kinds.{Kind}

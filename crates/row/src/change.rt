@@ -1,7 +1,7 @@
 // Cells and changes as memory holds them.
 ghost use Rattle.std.specs.Prelude.{◌≡◌, true, map, length, replicate, if◌then◌else◌};
 ghost use Rattle.row.specs.Records.{cell_of, change_of, held, null_cell, is_same, takes, wholly, later, rows_fit, answer_if};
-ghost use Rattle.row.specs.Rows.{same, becomes, over, changed, join};
+ghost use Rattle.row.specs.Rows.{null, same, becomes, over, changed, join};
 
 use crate::fault::Refusal;
 use crate::value::Value;
@@ -82,6 +82,35 @@ impl<R: Copy> Change<R> {
     }
 }
 
+impl<R: Value> Cell<R> {
+    pub fn null() -> Cell<R>
+        ensures { result ≡ null_cell R.kind }
+    {
+        let raw = R::rest();
+        Cell { null: true, raw }
+    }
+}
+
+impl<R: Value> Change<R> {
+    pub fn same() -> Change<R>
+        ensures { result ≡ held R.kind same }
+    {
+        Change {
+            mark: Mark::Same,
+            raw: R::rest(),
+        }
+    }
+
+    pub fn null() -> Change<R>
+        ensures { result ≡ held R.kind (becomes null) }
+    {
+        Change {
+            mark: Mark::Null,
+            raw: R::rest(),
+        }
+    }
+}
+
 // What becomes of a place by what stands in the same place of another list.
 trait Step<By>: Copy {
     ghost after: { Self → By → Self };
@@ -141,22 +170,14 @@ fn fill<X: Copy>(places: &mut [X], x: X)
 pub fn blank<R: Value>(delta: &mut [Change<R>])
     ensures { delta.new ≡ replicate (length delta.old) (held R.kind same) }
 {
-    let same = Change {
-        mark: Mark::Same,
-        raw: R::rest(),
-    };
-    fill(delta, same);
+    fill(delta, Change::same());
 }
 
 // Makes every cell null.
 pub fn nullify<R: Value>(row: &mut [Cell<R>])
     ensures { row.new ≡ replicate (length row.old) (null_cell R.kind) }
 {
-    let null = Cell {
-        null: true,
-        raw: R::rest(),
-    };
-    fill(row, null);
+    fill(row, Cell::null());
 }
 
 // Changes a row by a delta.

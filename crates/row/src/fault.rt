@@ -1,6 +1,6 @@
 // Why a text, a line or a call is refused.
 ghost use Rattle.std.specs.Prelude.{◌≡◌, ◌∷◌, ◌++◌, decimal, Some};
-ghost use Rattle.row.specs.Faults.{number_of, printed};
+ghost use Rattle.row.specs.Faults.{moved, number_of, printed};
 
 use std::fmt;
 
@@ -70,6 +70,16 @@ impl Refusal {
         fault: Fault::Memory,
         place: 0,
     };
+
+    // The refusal of a part, as one of the text in which the part begins at this place.
+    pub fn moved_by(self, start: usize) -> Refusal
+        ensures { result ≡ moved start self }
+    {
+        Refusal {
+            place: start.saturating_add(self.place),
+            ..self
+        }
+    }
 }
 
 // The fault's number and the place.

@@ -95,6 +95,7 @@ impl Logic {
     }
 
     // The value that a record holds, if it is sound.
+    // kept: an Option, as of `new`
     pub fn check(held: LogicRecord) -> Option<Logic>
         ensures { option_map (λ l. l.held) result ≡ (if logic_sound held then Some held else None) }
     {

@@ -1,7 +1,9 @@
 // Text values: 0 to 32 bytes.
-ghost use Rattle.std.specs.Prelude.{◌≡◌, true, if◌then◌else◌, Some, None};
+ghost use Rattle.std.specs.Prelude.{◌≡◌, true, length, if◌then◌else◌, Some, None};
 ghost use Rattle.std.specs.Option.{option_map};
-ghost use Rattle.row.specs.Texts.{text_allowed, text_sound, text_record};
+ghost use Rattle.row.specs.Kinds.{rest_record};
+ghost use Rattle.row.specs.Limits.{text_limit};
+ghost use Rattle.row.specs.Texts.{every, is_zero, padded, text_allowed, text_kind, text_of, text_sound, text_record};
 
 pub const TEXT_LIMIT: usize = 32;
 
@@ -20,7 +22,24 @@ pub struct Text {
     ghost sound: { text_sound held ≡ true },
 }
 
+fn are_zero(bytes: &[u8]) -> bool
+    ensures { result ≡ every is_zero bytes.now }
+{
+    bytes.iter().all(|b| *b == 0)
+}
+
 impl Text {
+    // The rest value: no bytes.
+    pub(crate) fn rest() -> Text
+        ensures { result.held ≡ rest_record text_kind }
+    {
+        let held = TextRecord {
+            bytes: [0; TEXT_LIMIT],
+            len: 0,
+        };
+        Text { held }
+    }
+
     // The text with these bytes, if they are not too many.
     // kept: an Option says all there is; TryFrom would want an error that says no more
     pub fn new(text: &[u8]) -> Option<Text>
@@ -39,16 +58,15 @@ impl Text {
     }
 
     // The value that a record holds, if it is sound.
+    // kept: an Option, as of `new`
     pub fn check(held: TextRecord) -> Option<Text>
         ensures { option_map (λ t. t.held) result ≡ (if text_sound held then Some held else None) }
     {
         if held.len as usize > TEXT_LIMIT {
             return None;
         }
-        for (i, b) in held.bytes.iter().enumerate() {
-            if *b != 0 && i >= held.len as usize {
-                return None;
-            }
+        if !are_zero(&held.bytes[held.len as usize..]) {
+            return None;
         }
         Some(Text { held })
     }
@@ -57,5 +75,15 @@ impl Text {
         ensures { result ≡ self.now.held }
     {
         self.held
+    }
+
+    // Writes the text, with zeros behind it, and answers its length.
+    pub(crate) fn write(&self, out: &mut [u8; TEXT_LIMIT]) -> usize
+        ensures length { result ≡ length (text_of self.now.held) }
+        ensures bytes { out.new ≡ padded text_limit (text_of self.now.held) }
+    {
+        let TextRecord { bytes, len } = self.held;
+        *out = bytes;
+        len as usize
     }
 }

@@ -33,10 +33,7 @@ impl Value for TextRecord {
     ghost lawful = { text-lawful };
 
     fn rest() -> TextRecord {
-        TextRecord {
-            bytes: [0; TEXT_LIMIT],
-            len: 0,
-        }
+        Text::rest().record()
     }
 
     fn read(text: &[u8]) -> Option<TextRecord> {
@@ -44,17 +41,8 @@ impl Value for TextRecord {
     }
 
     fn write(&self, out: &mut [u8; TEXT_LIMIT]) -> usize {
-        match Text::check(*self) {
-            Some(value) => {
-                let TextRecord { bytes, len } = value.record();
-                *out = bytes;
-                len as usize
-            }
-            None => {
-                *out = [0; TEXT_LIMIT];
-                0
-            }
-        }
+        let value = Text::check(*self).unwrap_or(Text::rest());
+        value.write(out)
     }
 }
 
