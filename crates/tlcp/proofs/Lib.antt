@@ -4,6 +4,7 @@ pub mod Steps
 pub mod Unescaped
 pub mod Spelling
 pub mod WrittenLists
+pub mod Moving
 pub mod Numerals
 pub mod Saying
 pub mod Contents

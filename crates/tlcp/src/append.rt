@@ -26,6 +26,7 @@ impl<const N: usize> Bounded<N> {
     pub fn of(bytes: [u8; N], len: usize) -> Option<Bounded<N>>
         ensures { option_map text_of result ≡ (if nat_le len N then Some (take len bytes.entry) else None) }
     {
+        // kept: of `then` the borrow checker takes no closure that makes a value with a parameter
         if len <= N {
             Some(Bounded { bytes, len })
         } else {

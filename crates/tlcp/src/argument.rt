@@ -58,12 +58,7 @@ impl<'a> Part<'a> {
     pub(crate) fn text(self) -> Result<Part<'a>, Refusal>
         ensures { on_ok wording result ≡ read_argument text (piece_in self.entry) }
     {
-        match decode(self.bytes, &mut []) {
-            Ok(_) => Ok(self),
-            Err(refusal) => Err(Refusal {
-                place: self.at + refusal.place,
-                ..refusal
-            }),
-        }
+        decode(self.bytes, &mut []).map_err(|refusal| refusal.moved_by(self.at))?;
+        Ok(self)
     }
 }

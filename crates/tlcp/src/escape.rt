@@ -25,11 +25,7 @@ pub fn hex_of(b: u8) -> Option<u8>
     ensures value { result ≡ (if is_hex b then Some (hex_value b) else None) }
     ensures bound { IfSome result (λ n. n < 16) }
 {
-    if is_of(b, Class::Hex) {
-        Some(hex_value(b))
-    } else {
-        None
-    }
+    is_of(b, Class::Hex).then(|| hex_value(b))
 }
 
 // The byte that the front of `s` stands for, and what is left behind it.
@@ -37,13 +33,7 @@ fn unit(s: &[u8]) -> Option<(u8, &[u8])>
     ensures { option_map (λ x. (x.0, x.1.now)) result ≡ unit_of s.now }
 {
     match s {
-        [b'%', h, l, rest @ ..] => {
-            if is_of(*h, Class::Hex) && is_of(*l, Class::Hex) {
-                Some((16 * hex_value(*h) + hex_value(*l), rest))
-            } else {
-                None
-            }
-        }
+        [b'%', h, l, rest @ ..] => Some((16 * hex_of(*h)? + hex_of(*l)?, rest)),
         [] | [b'%', ..] => None,
         [b, rest @ ..] => Some((*b, rest)),
     }

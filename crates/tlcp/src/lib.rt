@@ -31,7 +31,7 @@ pub use escape::{decode, hex_of};
 pub use examples::{logic_examples, worked_examples};
 pub use line::{LINE_LIMIT, Line, Notification, read_line};
 pub use list::{UNCOVERED, read_list};
-pub use list_write::{LIST_LIMIT, write_list};
+pub use list_write::{LIST_LIMIT, covers, write_list};
 pub use number::{CODE_LIMIT, COUNT_LIMIT, ID_LIMIT, Limits, read_code, read_number};
 pub use part::Part;
 pub use tag::Tag;

@@ -5,6 +5,7 @@ ghost use Rattle.row.specs.Records.{memory_refusal};
 ghost use Rattle.tlcp.specs.Held.{size_or, slot_after, held_delta, answer_of};
 ghost use Rattle.tlcp.specs.Lists.{uncovered, values, read_text, read_content, read_value, read_values, read_list, ReadsSpelled};
 
+use crate::bounded::Bounded;
 use crate::escape::decode;
 use crate::number::{Limits, read_number};
 use crate::text::{find, split};
@@ -36,12 +37,10 @@ fn read_escaped<R: Value>(value: &[u8], slot: &mut Change<R>) -> Result<usize, R
     ensures change { slot.new ≡ slot_after R.kind (read_content R.kind.allowed value.now) slot.old }
     ensures within { IfErr result (λ e. e.place ≤ length value.now) }
 {
-    let mut text = [0u8; TEXT_LIMIT];
-    let len = decode(value, &mut text)?;
-    if len > TEXT_LIMIT {
-        return Err(Fault::Value.at(0));
-    }
-    read_text(&text[..len], slot)
+    let mut bytes = [0; TEXT_LIMIT];
+    let len = decode(value, &mut bytes)?;
+    let text = Bounded::of(bytes, len).ok_or(Fault::Value.at(0))?;
+    read_text(text.text(), slot)
 }
 
 // A value that is neither empty nor one of the marks.
@@ -71,10 +70,7 @@ fn read_value<R: Value>(value: &[u8], slot: &mut Change<R>) -> Result<usize, Ref
             Ok(same as usize)
         }
         [b'#'] => {
-            *slot = Change {
-                mark: Mark::Null,
-                raw: R::rest(),
-            };
+            *slot = Change::null();
             Ok(1)
         }
         [b'$'] => read_text(b"", slot),
@@ -94,12 +90,10 @@ fn read_values<R: Value>(list: &[u8], fields: usize, delta: &mut [Change<R>]) ->
     let mut left = list;
     while covered < fields {
         let (value, rest) = split(left, b'|');
+        // kept: of `map_err` and `?` the proof did not close
         let more = match read_value(value, &mut delta[covered]) {
             Ok(more) => more,
-            Err(refusal) => {
-                let place = list.len() - left.len() + refusal.place;
-                return Err(Refusal { place, ..refusal });
-            }
+            Err(refusal) => return Err(refusal.moved_by(list.len() - left.len())),
         };
         if more > fields - covered {
             return Err(UNCOVERED);

@@ -5,7 +5,7 @@ ghost use Rattle.row.specs.Records.{change_of};
 ghost use Rattle.tlcp.specs.Bounds.{Adds, text_of};
 ghost use Rattle.tlcp.specs.Lists.{each_piped, run_values, text_value, written_values};
 ghost use Rattle.tlcp.specs.Said.{on_ok};
-ghost use Rattle.tlcp.specs.Written.{field_room, piped_limit, values_of, list_answer, list_placed, ReadBack};
+ghost use Rattle.tlcp.specs.Written.{covers, field_room, piped_limit, values_of, list_answer, list_placed, ReadBack};
 
 use crate::bounded::Bounded;
 use crate::class::Class;
@@ -17,7 +17,7 @@ use row::{Change, FIELD_LIMIT, Mark, Refusal, TEXT_LIMIT, Value};
 const PIPED_LIMIT: usize = (3 * TEXT_LIMIT + 1) * FIELD_LIMIT;
 
 // The longest list: no pipe stands before the first value.
-pub const LIST_LIMIT: usize = (3 * TEXT_LIMIT + 1) * FIELD_LIMIT - 1;
+pub const LIST_LIMIT: usize = PIPED_LIMIT - 1;
 
 type Piped = Bounded<PIPED_LIMIT>;
 
@@ -87,6 +87,13 @@ fn piped<R: Value>(delta: &[Change<R>]) -> Result<Piped, Refusal>
     Ok(list)
 }
 
+// Whether a list covers so many fields.
+pub fn covers(fields: usize) -> bool
+    ensures { result ≡ covers fields }
+{
+    matches!(fields, 1..=FIELD_LIMIT)
+}
+
 // Writes the changes of the first fields of a delta as a list from the place `at` on, if it fits, and answers the place behind it.
 pub fn write_list<R: Value>(
     out: &mut [u8],
@@ -101,7 +108,7 @@ pub fn write_list<R: Value>(
     if delta.len() != FIELD_LIMIT {
         return Err(Refusal::MEMORY);
     }
-    if fields == 0 || fields > FIELD_LIMIT {
+    if !covers(fields) {
         return Err(UNCOVERED);
     }
     let list = piped(&delta[..fields])?;

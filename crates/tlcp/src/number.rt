@@ -62,10 +62,7 @@ const FROM_ZERO: Limits = Limits {
 fn is_misshapen(s: &[u8]) -> bool
     ensures { result ≡ (length s.now == 0 || leading_zero s.now) }
 {
-    match s {
-        [] | [b'0', _, ..] => true,
-        _ => false,
-    }
+    matches!(s, [] | [b'0', _, ..])
 }
 
 // The number that `s` writes, if it is within the limits.
@@ -87,11 +84,7 @@ pub fn read_number(s: &[u8], limits: Limits) -> Option<u32>
             return None;
         }
     }
-    if u64::from(low) <= value {
-        Some(value as u32)
-    } else {
-        None
-    }
+    (u64::from(low) <= value).then_some(value as u32)
 }
 
 // The code that `s` writes: a number up to the limit, or one below zero with a minus before it.

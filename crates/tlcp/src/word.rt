@@ -16,10 +16,5 @@ pub trait Worded: Copy {
 pub fn first_with<W: Worded>(all: &[W], word: &[u8]) -> Option<W>
     ensures { result ≡ first_with W.word_of all.now word.now }
 {
-    for x in all {
-        if is_word(word, x.word()) {
-            return Some(*x);
-        }
-    }
-    None
+    all.iter().copied().find(|x| is_word(word, x.word()))
 }

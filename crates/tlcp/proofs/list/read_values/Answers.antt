@@ -1,9 +1,10 @@
-use Rattle.std.proofs.Common.{◌≡◌, ℕ, ◌+◌, ◌-◌, [], ◌∷◌, length, get_or, set, sym, ap, ◌∙◌, subst, arith, MatchOption}
+use Rattle.std.proofs.Common.{◌≡◌, ℕ, ◌+◌, ◌-◌, ◌≤◌, Err, [], ◌∷◌, length, get_or, set, sym, ap, ◌∙◌, subst, arith, MatchOption}
 use Rattle.std.specs.Option.{option_map}
 use Rattle.tlcp.specs.Held.{answer_of, held_delta}
 use Rattle.tlcp.specs.Lists.{values}
 use Rattle.tlcp.specs.Parts.{before, behind}
 use Rattle.tlcp.proofs.Filling.{Sofar, values_of, values-split, at-start, none_left, all_read, not-all, next-refused, next_past, next-taken}
+use Rattle.tlcp.proofs.Moving.{moved-shifted}
 use Rattle.tlcp.proofs.Spelling.{values-some}
 use Rattle.tlcp.proofs.list.read_values.Given as given
 use Rattle.tlcp.proofs.list.read_values.Goals as goal
@@ -23,10 +24,12 @@ found g c =
 pub returns-in-Err : goal.returns-in-Err
 returns-in-Err g c =
     let refused = next-refused g.R.Value.kind _ _ _ _ _ _ _ (found g (goal.at.returns-in-Err g c).After-split) c.loop-covered-test.true c.in-Err.refusal c.in-Err.ensures.answer in
+    let inside : length c.args.list.now - length c.loop-covered.left.now + c.in-Err.refusal.place ≤ length c.args.list.now = omega (arith, c.in-Err.ensures.within, c.split.ensures.within, c.loop-covered.invariant.0) in
+    let moved = c.moved_by.ensures ∙ moved-shifted _ c.in-Err.refusal (omega (arith, inside)) in
     record {
-      answer = sym (ap answer_of refused);
+      answer = ap Err moved ∙ sym (ap answer_of refused);
       changes = λ e. absurd (let z : ◌≡◌ {A = ℕ} 0 1 = cc in omega arith);
-      within = omega (arith, c.in-Err.ensures.within, c.split.ensures.within, c.loop-covered.invariant.0);
+      within = omega (arith, inside, ap (λ r. r.place) moved);
     }
 
 pub returns-then-more-fields : goal.returns-then-more-fields
