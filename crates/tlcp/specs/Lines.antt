@@ -100,12 +100,19 @@ pub record Message : Type 0 where
 abbrev pub piece : List ℕ → ℕ → Piece
 piece t at = record { text = t; at = at }
 
+-- a part up to the first byte c, and the part behind that byte
+abbrev pub front_at : ℕ → Piece → Piece
+front_at c p = piece (before c p.text) p.at
+
+abbrev pub rest_at : ℕ → Piece → Option Piece
+rest_at c p = option_map (λ t. piece t (p.at + (place_of c p.text + 1))) (behind c p.text)
+
 -- a part up to its first comma, and the part behind that comma
 abbrev pub front : Piece → Piece
-front p = piece (before 44 p.text) p.at
+front = front_at 44
 
 abbrev pub rest : Piece → Option Piece
-rest p = option_map (λ t. piece t (p.at + (place_of 44 p.text + 1))) (behind 44 p.text)
+rest = rest_at 44
 
 module _ {X Y : Type 0} where
   abbrev pub and_then : Result X Refusal → (X → Result Y Refusal) → Result Y Refusal

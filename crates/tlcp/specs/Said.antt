@@ -3,16 +3,20 @@ use Rattle.std.specs.Prelude.{◌≡◌, ℕ, ℤ, List, [], ◌∷◌, Ok, Err,
 use Rattle.std.specs.Option.{option_map}
 use Rattle.row.specs.declared.fault.Refusal.{Refusal}
 use Rattle.tlcp.specs.Lines.{Argument, numbered, coded, worded, listed, Message, arguments_of, message_of, piece, sorts}
+use Rattle.tlcp.specs.Limits.{line_limit}
 use Rattle.tlcp.specs.Parts.{Piece}
 use Rattle.tlcp.specs.declared.argument.Valued.{Valued}
 use Rattle.tlcp.specs.declared.line.Line.{Line}
 use Rattle.tlcp.specs.declared.line.Notification.{Notification}
 use Rattle.tlcp.specs.declared.line.Notification.TheVariants as n
-use Rattle.tlcp.specs.declared.part.Part.{Part}
+use Rattle.tlcp.specs.declared.part.Placed.{Placed}
 use Rattle.tlcp.specs.declared.tag.Tag.{Tag}
 use Rattle.tlcp.specs.declared.tag.Tag.TheVariants as t
 
-abbrev pub piece_in : Part → Piece
+abbrev pub Part : Type 0
+Part = Placed line_limit
+
+abbrev pub piece_in : {limit : ℕ} → Placed limit → Piece
 piece_in p = piece p.bytes.now p.at
 
 -- what an answer says, where f says it of what was accepted

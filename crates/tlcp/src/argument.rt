@@ -1,13 +1,11 @@
 // An argument of a line, read as what its place asks for.
 ghost use Rattle.std.specs.Prelude.{◌≡◌, IfSome};
-ghost use Rattle.std.specs.Option.{option_map};
-ghost use Rattle.tlcp.specs.Lines.{code, front, number, read_argument, rest, text};
+ghost use Rattle.tlcp.specs.Lines.{code, number, read_argument, text};
 ghost use Rattle.tlcp.specs.Said.{coding, numbering, on_ok, piece_in, wording};
 
 use crate::escape::decode;
+use crate::line::Part;
 use crate::number::{Limits, read_code, read_number};
-use crate::part::Part;
-use crate::text::split;
 use row::{Fault, Refusal};
 
 // A part of a line, and the value that it writes.
@@ -22,25 +20,6 @@ pub type Number<'a> = Valued<'a, u32>;
 pub type Code<'a> = Valued<'a, i32>;
 
 impl<'a> Part<'a> {
-    // What stands before the first comma, and what stands behind it.
-    pub(crate) fn cut(self) -> (Part<'a>, Option<Part<'a>>)
-        ensures front { piece_in result.0 ≡ front (piece_in self.entry) }
-        ensures rest { option_map piece_in result.1 ≡ rest (piece_in self.entry) }
-    {
-        let (front, rest) = split(self.bytes, b',');
-        let front = Part {
-            bytes: front,
-            at: self.at,
-        };
-        match rest {
-            Some(rest) => {
-                let at = self.at + (front.bytes.len() + 1);
-                (front, Some(Part { bytes: rest, at }))
-            }
-            None => (front, None),
-        }
-    }
-
     pub(crate) fn number(self, limits: Limits) -> Result<Number<'a>, Refusal>
         ensures { on_ok numbering result ≡ read_argument (number limits.low limits.high) (piece_in self.entry) }
     {

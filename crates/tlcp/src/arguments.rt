@@ -4,7 +4,7 @@ ghost use Rattle.std.specs.Option.{option_map};
 ghost use Rattle.tlcp.specs.Dividing.{behind_next, last_piece, next_piece, no_piece};
 ghost use Rattle.tlcp.specs.Said.{on_ok, piece_in};
 
-use crate::part::Part;
+use crate::line::Part;
 use row::{Fault, Refusal};
 
 // The arguments that are left of a line, and where the line ends.
@@ -24,7 +24,7 @@ impl<'a> Arguments<'a> {
         let Some(part) = self.left else {
             return Err(Fault::Parts.at(self.end));
         };
-        let (front, rest) = part.cut();
+        let (front, rest) = part.cut(b',');
         self.left = rest;
         Ok(front)
     }

@@ -8,6 +8,7 @@ use crate::class::{Class, is_of};
 use row::{Fault, Refusal};
 
 // The value of a hexadecimal digit of either case.
+// kept: which bytes are digits is the class table's to say, by the project's rule, and `to_digit` would say it again
 fn hex_value(b: u8) -> u8
     requires { is_hex b ≡ true }
     ensures value { result ≡ hex_value b }

@@ -5,12 +5,15 @@ ghost use Rattle.tlcp.specs.Said.{said};
 
 use crate::argument::{Code, Number};
 use crate::arguments::Arguments;
-use crate::part::Part;
+use crate::part::Placed;
 use crate::tag::Tag;
 use row::{Fault, Refusal};
 
 // The bytes of a line, without its end.
 pub const LINE_LIMIT: usize = 1172;
+
+// A part of a line.
+pub type Part<'a> = Placed<'a, LINE_LIMIT>;
 
 // What a line says.
 #[derive(Clone, Copy)]
@@ -79,7 +82,7 @@ pub fn read_line(line: &[u8]) -> Result<Line<'_>, Refusal>
     if line.len() > LINE_LIMIT {
         return Err(Fault::Length.at(0));
     }
-    let (name, left) = Part { bytes: line, at: 0 }.cut();
+    let (name, left) = Part { bytes: line, at: 0 }.cut(b',');
     let tag = Tag::of(name.bytes).ok_or(Fault::Unknown.at(0))?;
     let arguments = Arguments {
         left,

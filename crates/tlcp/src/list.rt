@@ -17,6 +17,8 @@ pub const UNCOVERED: Refusal = Refusal {
     place: 0,
 };
 
+// kept: here and up to `read_value` three clauses, which the check finds one by one; as one relation each way out would
+// need an answer
 // A text in the place of a value.
 fn read_text<R: Value>(text: &[u8], slot: &mut Change<R>) -> Result<usize, Refusal>
     ensures answer { result ≡ size_or (read_text R.kind.allowed text.now) }

@@ -1,11 +1,10 @@
-// Parts of a line.
+// Parts of a text.
 ghost use Rattle.std.specs.Prelude.{◌+◌, ◌≤◌, length};
-ghost use Rattle.tlcp.specs.Limits.{line_limit};
 
-// A part of a line, and the offset of its first byte.
+// A part of a text of no more than so many bytes, and the offset of its first byte.
 #[derive(Clone, Copy)]
-pub struct Part<'a> {
+pub struct Placed<'a, const LIMIT: usize> {
     pub bytes: &'a [u8],
     pub at: usize,
-    ghost in_line: { at + length bytes.now ≤ line_limit },
+    ghost within: { at + length bytes.now ≤ LIMIT },
 }

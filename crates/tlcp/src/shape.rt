@@ -7,9 +7,8 @@ ghost use Rattle.tlcp.specs.Said.{Tells, coding, on_ok, piece_in, wording};
 
 use crate::argument::Code;
 use crate::arguments::Arguments;
-use crate::line::Notification;
+use crate::line::{Notification, Part};
 use crate::number::Limits;
-use crate::part::Part;
 use crate::tag::Tag;
 use row::Refusal;
 

@@ -1,4 +1,4 @@
-use Rattle.std.proofs.Common.{◌≡◌, cond, nat_le, replicate, take, Some, None, sym, ap, ◌∙◌, arith}
+use Rattle.std.proofs.Common.{◌≡◌, nat_le, replicate, take, sym, ap, ◌∙◌, arith}
 use Rattle.std.specs.Option.{option_map}
 use Rattle.std.proofs.lemmas.Bool.{leb-true}
 use Rattle.row.specs.Every.{some-from-cond}

@@ -1,7 +1,6 @@
-use Rattle.std.proofs.Common.{◌+◌, ◌*◌, ◌≤◌, drop, Some, None, sym, ap, ◌∙◌, arith}
-use Rattle.std.proofs.lemmas.Bool.{le-leb, lt-leb, cond-true, cond-false}
+use Rattle.std.proofs.Common.{◌+◌, ◌*◌, ◌≤◌, drop, None, sym, ap, ◌∙◌, arith}
 use Rattle.tlcp.specs.Numbers.{digits_from}
-use Rattle.tlcp.proofs.Steps.{no_digit, too-high, digit-more, number_is, digits-all}
+use Rattle.tlcp.proofs.Steps.{no_digit, too-high, digit-more, number_is}
 use Rattle.tlcp.proofs.number.read_number.Goals as goal
 
 pub returns-then-not-is_of : goal.returns-then-not-is_of
