@@ -3,6 +3,7 @@ use Rattle.std.proofs.Common.{◌≡◌, Bool, ◌==◌, cond, ℕ, ◌+◌, ◌
 use Rattle.std.proofs.lemmas.List.{take-map, length-map}
 use Rattle.std.proofs.Math.Seq.{drop-append-add, take-append_seam}
 use Rattle.std.proofs.lemmas.Bool.{cond-true, and_parts, leb-true, le-leb, eq-eqb}
+use Rattle.row.specs.Limits.{field_limit}
 use Rattle.row.specs.Records.{cell_of, change_of, wholly}
 use Rattle.row.specs.Rows.{becomes}
 use Rattle.row.specs.Texts.{text_kind}
@@ -13,14 +14,14 @@ use Rattle.row.specs.Every.{text-lawful}
 use Rattle.row.proofs.Over.{wholly-means}
 use Rattle.tlcp.specs.Bounds.{extended, has_room, list_extended}
 use Rattle.tlcp.specs.Lists.{written_list}
-use Rattle.tlcp.specs.Written.{changes_of, covers}
+use Rattle.tlcp.specs.Written.{changes_of, covers, list_limit}
 use Rattle.tlcp.proofs.Deltas.{list-short}
 use Rattle.viewer.specs.Rows.{row_at}
 use Rattle.viewer.specs.declared.entry.Entry.{Entry}
 use Rattle.follow.specs.Answers.{list_text, row_text, rows_from, rows_text}
 
 -- a whole row's list, appended to nothing
-pub row-list : (row : List (Cell TextRecord)) (fields : ℕ) (delta : List (Change TextRecord)) → delta ≡ map wholly row → length row ≡ 12 → list_extended text_kind 1163 [] delta fields ≡ list_text row fields
+pub row-list : (row : List (Cell TextRecord)) (fields : ℕ) (delta : List (Change TextRecord)) → delta ≡ map wholly row → length row ≡ field_limit → list_extended text_kind list_limit [] delta fields ≡ list_text row fields
 row-list row fields delta whole long =
     cond-true (length delta == 12) _ [] (eq-eqb (length delta) 12 twelve) ∙ by (covers fields) refl
   where
@@ -36,18 +37,18 @@ row-list row fields delta whole long =
         (sym (take-map (change_of text_kind) fields delta)
         ∙ ap (take fields) (ap (map (change_of text_kind)) whole ∙ wholly-means text_kind row))
 
-    fits : covers fields ≡ true → has_room 1163 [] list ≡ true
+    fits : covers fields ≡ true → has_room list_limit [] list ≡ true
     fits some =
         let parts = and_parts (leb 1 fields) (leb fields 12) some in
         let short = list-short text_kind delta fields twelve (leb-true fields 12 parts.1) text-lawful (leb-true 1 fields parts.0) in
-        le-leb (0 + length (written_list (changes_of text_kind delta fields))) 1163 (omega arith)
+        le-leb (0 + length (written_list (changes_of text_kind delta fields))) list_limit (omega arith)
 
-    by : (b : Bool) → covers fields ≡ b → cond b (extended 1163 [] list) [] ≡ cond b (written_list (take fields (map becomes (map (cell_of text_kind) row)))) []
-    by true some = cond-true (has_room 1163 [] list) list [] (fits some) ∙ list-is
+    by : (b : Bool) → covers fields ≡ b → cond b (extended list_limit [] list) [] ≡ cond b (written_list (take fields (map becomes (map (cell_of text_kind) row)))) []
+    by true some = cond-true (has_room list_limit [] list) list [] (fits some) ∙ list-is
     by false none = refl
 
 -- a row, and the cells behind it
-module _ (row rest : List (Cell TextRecord)) (long : length row ≡ 12) where
+module _ (row rest : List (Cell TextRecord)) (long : length row ≡ field_limit) where
   first-row : row_at 0 (row ++ rest) ≡ row
   first-row = ap (λ n. take n (row ++ rest)) (sym long) ∙ take-append_seam row rest
 

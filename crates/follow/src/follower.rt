@@ -4,7 +4,7 @@ ghost use Rattle.follow.specs.Feeding.{held_limit, hearing, opened};
 
 use crate::print::push_answer;
 use crate::rows::push_rows;
-use row::{Cell, Change, FIELD_LIMIT, Mark, TextRecord, Value};
+use row::{Cell, Change, FIELD_LIMIT, TextRecord};
 use std::alloc::AllocError;
 use streams::Hear;
 use tlcp::LINE_LIMIT;
@@ -22,19 +22,10 @@ impl Follower {
     pub fn new() -> Follower
         ensures { result ≡ opened }
     {
-        let rest = <TextRecord as Value>::rest();
-        let null = Cell {
-            null: true,
-            raw: rest,
-        };
-        let same = Change {
-            mark: Mark::Same,
-            raw: rest,
-        };
         Follower {
             viewer: Viewer::holding([1, 2, 3, 4, 5, 6, 7, 8]),
-            cells: [null; CELL_LIMIT],
-            delta: [same; FIELD_LIMIT],
+            cells: [Cell::null(); CELL_LIMIT],
+            delta: [Change::same(); FIELD_LIMIT],
         }
     }
 }

@@ -4,7 +4,7 @@ ghost use Rattle.row.specs.Limits.{field_limit};
 ghost use Rattle.viewer.specs.Limits.{cell_limit};
 ghost use Rattle.follow.specs.Answers.{list_text, row_text, rows_text};
 
-use row::{Cell, Change, FIELD_LIMIT, Mark, TextRecord, Value, whole_row};
+use row::{Cell, Change, FIELD_LIMIT, TextRecord, whole_row};
 use std::alloc::AllocError;
 use tlcp::{Bounded, LIST_LIMIT};
 use viewer::{Entry, Viewer};
@@ -14,11 +14,7 @@ fn push_list(out: &mut Vec<u8>, row: &[Cell<TextRecord>], fields: usize) -> Resu
     requires { length row.now ≡ field_limit }
     ensures { OnOk result (out.new.items ≡ out.old.items ++ list_text row.now fields) }
 {
-    let same = Change {
-        mark: Mark::Same,
-        raw: <TextRecord as Value>::rest(),
-    };
-    let mut delta = [same; FIELD_LIMIT];
+    let mut delta = [Change::same(); FIELD_LIMIT];
     let _ = whole_row(row, &mut delta);
     let mut list = Bounded::<LIST_LIMIT>::new();
     // of no fields, or of more than a row has, nothing is printed

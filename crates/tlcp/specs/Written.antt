@@ -1,5 +1,5 @@
 -- What a writer leaves in lent memory, and what it answers.
-use Rattle.std.specs.Prelude.{◌≡◌, ℕ, ◌+◌, ◌*◌, ◌≤◌, Bool, cond, ◌&&◌, List, [], ◌∷◌, ◌++◌, map, length, take, drop, Ok, Err, Result, ◌==◌, nat_le}
+use Rattle.std.specs.Prelude.{◌≡◌, ℕ, ◌+◌, ◌-◌, ◌*◌, ◌≤◌, Bool, cond, ◌&&◌, List, [], ◌∷◌, ◌++◌, map, length, take, drop, Ok, Err, Result, ◌==◌, nat_le}
 use Rattle.row.specs.Kinds.{Kind}
 use Rattle.row.specs.Limits.{field_limit, text_limit}
 use Rattle.row.specs.Records as records
@@ -36,6 +36,10 @@ field_room = 3 * text_limit + 1
 -- what the values of a row take at most, each behind a pipe
 abbrev pub piped_limit : ℕ
 piped_limit = field_room * field_limit
+
+-- the longest list: no pipe stands before the first value
+abbrev pub list_limit : ℕ
+list_limit = piped_limit - 1
 
 -- the value of a change, if it has one of its own
 abbrev pub values_of : rows.Change → List (List ℕ)

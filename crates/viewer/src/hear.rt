@@ -79,10 +79,7 @@ impl Viewer {
             blank(delta);
             return Ok(Heard::Passed);
         };
-        read_list(values.bytes, fields, delta).map_err(|refusal| Refusal {
-            place: values.at + refusal.place,
-            ..refusal
-        })?;
+        read_list(values.bytes, fields, delta).map_err(|refusal| refusal.moved_by(values.at))?;
         update_row(cells, i, delta);
         Ok(Heard::Taken)
     }
