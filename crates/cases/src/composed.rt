@@ -1,24 +1,13 @@
 // Requests, written by the viewer.
-use compose::{Pair as Given, RequestWriter, compose};
+use compose::{Pair, RequestWriter, compose};
 use requests::{Name, Parameter};
 use row::Refusal;
 use std::process::Abort;
 use std::test::*;
 
-type Pair = (Parameter, &'static [u8]);
-
 const LONGEST: &[u8] = b"0123456789abcdef0123456789abcdef0123456789abcdef0123456789abcdef";
 
 const TOO_LONG: &[u8] = b"0123456789abcdef0123456789abcdef0123456789abcdef0123456789abcdef!";
-
-fn write(out: &mut [u8], name: Name, pairs: &[Pair]) -> Result<usize, Refusal> {
-    let mut request = RequestWriter::new(out, name);
-    request.begin()?;
-    for (parameter, value) in pairs {
-        request.add(*parameter, value)?;
-    }
-    Ok(request.finish().len)
-}
 
 fn are_all(bytes: &[u8], b: u8) -> bool {
     bytes.iter().all(|x| *x == b)
@@ -31,31 +20,21 @@ fn check_bytes(
     answer: Result<usize, Refusal>,
     text: &[u8],
 ) -> Result<(), Fail> {
-    match answer {
-        Ok(len) => {
-            assert_eq!(rt; len, text.len());
-            assert!(rt; out.starts_with(text));
-            assert!(rt; len <= out.len() && are_all(&out[len..], 0));
-            Ok(())
-        }
-        Err(_) => Err(Fail::new("refused")),
-    }
+    assert_eq!(rt; answer, Ok(text.len()));
+    assert!(rt; out.starts_with(text));
+    assert!(rt; out.iter().skip(text.len()).all(|b| *b == 0));
+    Ok(())
 }
 
 fn check_fault(rt: &impl Abort, answer: Result<usize, Refusal>, number: u8) -> Result<(), Fail> {
-    match answer {
-        Ok(_) => Err(Fail::new("accepted")),
-        Err(refusal) => {
-            assert_eq!(rt; u8::from(refusal.fault), number);
-            assert_eq!(rt; refusal.place, 0);
-            Ok(())
-        }
-    }
+    let fault = answer.map_err(|refusal| (u8::from(refusal.fault), refusal.place));
+    assert_eq!(rt; fault, Err((number, 0)));
+    Ok(())
 }
 
-fn check_request(rt: &impl Abort, name: Name, pairs: &[Pair], text: &[u8]) -> Result<(), Fail> {
+fn check_request(rt: &impl Abort, name: Name, pairs: &[Pair<'_>], text: &[u8]) -> Result<(), Fail> {
     let mut out = [b'?'; 300];
-    let answer = write(&mut out, name, pairs);
+    let answer = compose(&mut out, name, pairs);
     check_bytes(rt, &out, answer, text)
 }
 
@@ -65,20 +44,20 @@ fn requests(rt: HostRuntime) -> Result<(), Fail> {
     check_request(
         &rt,
         Name::BindSession,
-        &[(Parameter::Session, b"S1")],
+        &[Pair::new(Parameter::Session, b"S1")],
         b"bind_session\r\nLS_session=S1",
     )?;
     check_request(
         &rt,
         Name::Control,
         &[
-            (Parameter::RequestId, b"r1"),
-            (Parameter::Operation, b"add"),
-            (Parameter::SubscriptionId, b"1"),
-            (Parameter::Group, b"t1"),
-            (Parameter::Schema, b"all"),
-            (Parameter::Mode, b"MERGE"),
-            (Parameter::Snapshot, b"true"),
+            Pair::new(Parameter::RequestId, b"r1"),
+            Pair::new(Parameter::Operation, b"add"),
+            Pair::new(Parameter::SubscriptionId, b"1"),
+            Pair::new(Parameter::Group, b"t1"),
+            Pair::new(Parameter::Schema, b"all"),
+            Pair::new(Parameter::Mode, b"MERGE"),
+            Pair::new(Parameter::Snapshot, b"true"),
         ],
         b"control\r\nLS_reqId=r1&LS_op=add&LS_subId=1&LS_group=t1&LS_schema=all&LS_mode=MERGE&LS_snapshot=true",
     )
@@ -91,17 +70,17 @@ fn escaped_values(rt: HostRuntime) -> Result<(), Fail> {
         &rt,
         Name::CreateSession,
         &[
-            (Parameter::Cid, b"az09-._~"),
-            (Parameter::Password, b" &=%\xff/+"),
+            Pair::new(Parameter::Cid, b"az09-._~"),
+            Pair::new(Parameter::Password, b" &=%\xff/+"),
         ],
         b"create_session\r\nLS_cid=az09-._~&LS_password=%20%26%3D%25%FF%2F%2B",
     )
 }
 
 // A request that its last pair spoils leaves only zeros.
-fn check_left(rt: &impl Abort, out: &mut [u8], pairs: &[Pair], number: u8) -> Result<(), Fail> {
+fn check_left(rt: &impl Abort, out: &mut [u8], pairs: &[Pair<'_>], number: u8) -> Result<(), Fail> {
     out.fill(b'?');
-    let answer = write(out, Name::CreateSession, pairs);
+    let answer = compose(out, Name::CreateSession, pairs);
     check_fault(rt, answer, number)?;
     assert!(rt; are_all(out, 0));
     Ok(())
@@ -109,20 +88,35 @@ fn check_left(rt: &impl Abort, out: &mut [u8], pairs: &[Pair], number: u8) -> Re
 
 #[test]
 fn refused_pairs(rt: HostRuntime) -> Result<(), Fail> {
-    let password: Pair = (Parameter::Password, b"secret");
+    let password = Pair::new(Parameter::Password, b"secret");
     let mut out = [0u8; 300];
     check_left(&rt, &mut out, &[password, password], 6)?;
-    check_left(&rt, &mut out, &[password, (Parameter::Mode, b"MERGE")], 6)?;
-    check_left(&rt, &mut out, &[password, (Parameter::User, TOO_LONG)], 16)?;
+    check_left(
+        &rt,
+        &mut out,
+        &[password, Pair::new(Parameter::Mode, b"MERGE")],
+        6,
+    )?;
+    check_left(
+        &rt,
+        &mut out,
+        &[password, Pair::new(Parameter::User, TOO_LONG)],
+        16,
+    )?;
     check_left(&rt, &mut [0u8; 33], &[password], 16)?;
-    check_left(&rt, &mut [0u8; 42], &[password, (Parameter::Cid, b"c")], 16)
+    check_left(
+        &rt,
+        &mut [0u8; 42],
+        &[password, Pair::new(Parameter::Cid, b"c")],
+        16,
+    )
 }
 
 // Bytes that are too few for the name stay as they were.
 #[test]
 fn refused_name(rt: HostRuntime) -> Result<(), Fail> {
     let mut out = [b'?'; 15];
-    check_fault(&rt, write(&mut out, Name::CreateSession, &[]), 16)?;
+    check_fault(&rt, compose(&mut out, Name::CreateSession, &[]), 16)?;
     assert!(rt; are_all(&out, b'?'));
     Ok(())
 }
@@ -166,9 +160,9 @@ fn login(out: &mut [u8], password: &[u8]) -> Result<usize, Refusal> {
         out,
         Name::CreateSession,
         &[
-            Given::new(Parameter::Cid, b"c"),
-            Given::new(Parameter::User, b"u"),
-            Given::new(Parameter::Password, password),
+            Pair::new(Parameter::Cid, b"c"),
+            Pair::new(Parameter::User, b"u"),
+            Pair::new(Parameter::Password, password),
         ],
     )
 }

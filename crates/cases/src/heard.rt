@@ -1,5 +1,5 @@
 // Lines that a viewer hears, and what comes of them.
-use row::{Cell, Change, FIELD_LIMIT, Mark, TextRecord, Value, whole_row};
+use row::{Cell, Change, FIELD_LIMIT, TextRecord, whole_row};
 use std::process::Abort;
 use std::test::*;
 use tlcp::{LINE_LIMIT, LIST_LIMIT, write_list};
@@ -9,6 +9,7 @@ use viewer::{CELL_LIMIT, Heard, TAP_LIMIT, Viewer};
 // A refusal is its fault's number and its place.
 type Answer = Result<Heard, (u8, usize)>;
 
+// kept: the same memory as of `follow`'s listener, which is a program's own and answers by text
 #[derive(Drop)]
 struct Listener {
     viewer: Viewer,
@@ -18,19 +19,10 @@ struct Listener {
 
 impl Listener {
     fn new() -> Listener {
-        let rest = <TextRecord as Value>::rest();
-        let null = Cell {
-            null: true,
-            raw: rest,
-        };
-        let same = Change {
-            mark: Mark::Same,
-            raw: rest,
-        };
         Listener {
             viewer: Viewer::holding([1, 2, 3, 4, 5, 6, 7, 8]),
-            cells: [null; CELL_LIMIT],
-            delta: [same; FIELD_LIMIT],
+            cells: [Cell::null(); CELL_LIMIT],
+            delta: [Change::same(); FIELD_LIMIT],
         }
     }
 
@@ -53,14 +45,9 @@ impl Listener {
         let mut delta = self.delta;
         let mut out = [b'?'; LIST_LIMIT];
         assert!(rt; whole_row(&self.cells[at..at + FIELD_LIMIT], &mut delta).is_ok());
-        match write_list(&mut out, 0, &delta, fields) {
-            Ok(len) => {
-                assert_eq!(rt; len, list.len());
-                assert!(rt; out.starts_with(list));
-                Ok(())
-            }
-            Err(_) => Err(Fail::new("no list")),
-        }
+        assert_eq!(rt; write_list(&mut out, 0, &delta, fields), Ok(list.len()));
+        assert!(rt; out.starts_with(list));
+        Ok(())
     }
 }
 

@@ -11,13 +11,10 @@ fn words_of(text: &[u8]) -> Option<Words> {
 
 // The record of a case is written as this text, with zeros behind it.
 fn check_written<R: Value>(rt: &impl Abort, case: usize, raw: &R, text: &[u8]) -> Result<(), Fail> {
-    let mut bytes = [0u8; TEXT_LIMIT];
-    for (to, from) in bytes.iter_mut().zip(text) {
-        *to = *from;
-    }
     let mut out = [b'?'; TEXT_LIMIT];
     assert_eq!(rt; raw.write(&mut out), text.len(), "case {case}");
-    assert!(rt; out == bytes, "case {case}");
+    assert!(rt; out.starts_with(text), "case {case}");
+    assert!(rt; out.iter().skip(text.len()).all(|b| *b == 0), "case {case}");
     Ok(())
 }
 

@@ -8,106 +8,79 @@ use tlcp::{LINE_LIMIT, Notification, Part, decode, read_line};
 // Whether a part stands for these bytes.
 fn is_text(part: Part<'_>, meant: &[u8]) -> bool {
     let mut out = [0u8; LINE_LIMIT];
-    match decode(part.bytes, &mut out) {
-        Ok(len) => len == meant.len() && out.starts_with(meant),
-        Err(_) => false,
-    }
+    decode(part.bytes, &mut out) == Ok(meant.len()) && out.starts_with(meant)
 }
 
 // Whether a line was read as this message.
+// kept: two types, since a message has texts as they are meant and what was read has them as they stand in the line
 fn is_same(message: Message<'_>, says: Notification<'_>) -> bool {
     match (message, says) {
         (Message::Probe, Notification::Probe) => true,
-        (Message::Sync(n), Notification::Sync(m)) => m.value == n,
-        (Message::Loop(n), Notification::Loop(m)) => m.value == n,
-        (Message::Cons(text), Notification::Cons(part)) => is_text(part, text),
-        (Message::Servname(text), Notification::Servname(part)) => is_text(part, text),
-        (Message::Clientip(text), Notification::Clientip(part)) => is_text(part, text),
-        (Message::Reqok(text), Notification::Reqok(part)) => is_text(part, text),
-        (Message::Unsub(id), Notification::Unsub(m)) => m.value == id,
-        _ => is_same_longer(message, says),
+        (Message::Sync(n), Notification::Sync(m))
+        | (Message::Loop(n), Notification::Loop(m))
+        | (Message::Unsub(n), Notification::Unsub(m)) => m.value == n,
+        (Message::Cons(text), Notification::Cons(part))
+        | (Message::Servname(text), Notification::Servname(part))
+        | (Message::Clientip(text), Notification::Clientip(part))
+        | (Message::Reqok(text), Notification::Reqok(part)) => is_text(part, text),
+        (Message::Conerr(n, text), Notification::Conerr(code, part))
+        | (Message::End(n, text), Notification::End(code, part))
+        | (Message::Error(n, text), Notification::Error(code, part)) => {
+            code.value == n && is_text(part, text)
+        }
+        _ => is_same_named(message, says),
     }
 }
 
-fn is_same_longer(message: Message<'_>, says: Notification<'_>) -> bool {
+// The same of the messages whose arguments have names.
+fn is_same_named(message: Message<'_>, says: Notification<'_>) -> bool {
+    use Notification as Says;
     match (message, says) {
-        (Message::Conerr(n, text), Notification::Conerr(code, part)) => {
-            code.value == n && is_text(part, text)
+        (Message::Eos { id: a }, Says::Eos { id, item }) => id.value == a && item.value == 1,
+        (Message::Subok { id: a, fields: b }, Says::Subok { id, items, fields }) => {
+            id.value == a && items.value == 1 && fields.value == b
         }
-        (Message::End(n, text), Notification::End(code, part)) => {
-            code.value == n && is_text(part, text)
+        (Message::Ov { id: a, lost: b }, Says::Ov { id, item, lost }) => {
+            id.value == a && item.value == 1 && lost.value == b
         }
-        (Message::Error(n, text), Notification::Error(code, part)) => {
-            code.value == n && is_text(part, text)
-        }
-        (Message::Eos { id }, Notification::Eos { id: read, item }) => {
-            read.value == id && item.value == 1
-        }
-        (
-            Message::Subok { id, fields },
-            Notification::Subok {
-                id: read,
-                items,
-                fields: count,
-            },
-        ) => read.value == id && items.value == 1 && count.value == fields,
-        (
-            Message::Ov { id, lost },
-            Notification::Ov {
-                id: read,
-                item,
-                lost: count,
-            },
-        ) => read.value == id && item.value == 1 && count.value == lost,
-        _ => is_same_longest(message, says),
-    }
-}
-
-fn is_same_longest(message: Message<'_>, says: Notification<'_>) -> bool {
-    match (message, says) {
         (
             Message::Conf {
+                id: a,
+                frequency: b,
+                filter: c,
+            },
+            Says::Conf {
                 id,
                 frequency,
                 filter,
             },
-            Notification::Conf {
-                id: read,
-                frequency: first,
-                filter: second,
-            },
-        ) => read.value == id && is_text(first, frequency) && is_text(second, filter),
+        ) => { id.value == a && is_text(frequency, b) && is_text(filter, c) }
         (
             Message::Reqerr {
+                request: a,
+                code: b,
+                message: c,
+            },
+            Says::Reqerr {
                 request,
                 code,
                 message,
             },
-            Notification::Reqerr {
-                request: first,
-                code: read,
-                message: second,
-            },
-        ) => is_text(first, request) && read.value == code && is_text(second, message),
+        ) => { is_text(request, a) && code.value == b && is_text(message, c) }
         (
             Message::Conok {
+                session: a,
+                limit: b,
+                keepalive: c,
+                link: d,
+            },
+            Says::Conok {
                 session,
                 limit,
                 keepalive,
                 link,
             },
-            Notification::Conok {
-                session: first,
-                limit: most,
-                keepalive: pause,
-                link: second,
-            },
-        ) => {
-            is_text(first, session)
-                && most.value == limit
-                && pause.value == keepalive
-                && is_text(second, link)
-        }
+        ) => { is_text(session, a) && limit.value == b && keepalive.value == c && is_text(link, d) }
         _ => false,
     }
 }
@@ -117,15 +90,9 @@ fn check_line(rt: &impl Abort, case: usize, message: Message<'_>, line: &[u8]) -
     let written = write_line(&mut out, 0, message);
     assert_eq!(rt; written, Ok(line.len()), "line {case}");
     assert!(rt; out.starts_with(line), "line {case}");
-    let read = read_line(line);
-    assert!(rt; read.is_ok(), "line {case} is not read");
-    match read {
-        Ok(read) => {
-            assert!(rt; is_same(message, read.says), "line {case}");
-            Ok(())
-        }
-        Err(_) => Err(Fail::new("not read")),
-    }
+    let read = read_line(line).map_err(|_| Fail::new("not read"))?;
+    assert!(rt; is_same(message, read.says), "line {case}");
+    Ok(())
 }
 
 // One message of every tag, by the rules of lines.
@@ -354,15 +321,11 @@ fn update_read_back(rt: HostRuntime) -> Result<(), Fail> {
     let mut out = [b'?'; 20];
     assert!(rt; write_update(&mut out, 2, 70, &delta, 8).is_ok());
     assert!(rt; out.starts_with(b"??U,70,1,|#|^6??????"));
-    match read_line(b"U,70,1,|#|^6") {
-        Ok(line) => match line.says {
-            Notification::U { id, item, values } => {
-                assert_eq!(rt; (id.value, item.value, values.at), (70, 1, 7));
-                assert!(rt; values.bytes == b"|#|^6".as_slice());
-                Ok(())
-            }
-            _ => Err(Fail::new("another message")),
-        },
-        Err(_) => Err(Fail::new("not read")),
-    }
+    let line = read_line(b"U,70,1,|#|^6").map_err(|_| Fail::new("not read"))?;
+    let Notification::U { id, item, values } = line.says else {
+        return Err(Fail::new("another message"));
+    };
+    assert_eq!(rt; (id.value, item.value, values.at), (70, 1, 7));
+    assert!(rt; values.bytes == b"|#|^6".as_slice());
+    Ok(())
 }

@@ -1,5 +1,5 @@
 // Value lists, written and read back.
-use row::{Change, FIELD_LIMIT, Mark, TextRecord, Value};
+use row::{Change, FIELD_LIMIT, Mark, TEXT_LIMIT, TextRecord, Value};
 use std::process::Abort;
 use std::test::*;
 use tlcp::{LIST_LIMIT, read_list, write_list};
@@ -22,16 +22,8 @@ const MIXED: Row = [
     (Mark::Same, b""),
 ];
 
-const SAME: Change<TextRecord> = Change {
-    mark: Mark::Same,
-    raw: TextRecord {
-        bytes: [0; 32],
-        len: 0,
-    },
-};
-
 fn delta_of(row: &Row) -> [Change<TextRecord>; FIELD_LIMIT] {
-    let mut delta = [SAME; FIELD_LIMIT];
+    let mut delta = [Change::same(); FIELD_LIMIT];
     for (change, (mark, text)) in delta.iter_mut().zip(row.iter()) {
         if let Some(raw) = <TextRecord as Value>::read(text) {
             *change = Change { mark: *mark, raw };
@@ -42,7 +34,7 @@ fn delta_of(row: &Row) -> [Change<TextRecord>; FIELD_LIMIT] {
 
 // Whether a change has this mark, and its record this text.
 fn says(change: &Change<TextRecord>, mark: Mark, text: &[u8]) -> bool {
-    let mut bytes = [0u8; 32];
+    let mut bytes = [0; TEXT_LIMIT];
     let len = change.raw.write(&mut bytes);
     change.mark == mark && len == text.len() && bytes.starts_with(text)
 }
@@ -89,7 +81,7 @@ fn lists(rt: HostRuntime) -> Result<(), Fail> {
 
 #[test]
 fn read_back(rt: HostRuntime) -> Result<(), Fail> {
-    let mut delta = [SAME; FIELD_LIMIT];
+    let mut delta: [Change<TextRecord>; FIELD_LIMIT] = [Change::same(); FIELD_LIMIT];
     assert!(rt; read_list(b"%23|a#|#|$|^4|%2C%FF|||", FIELD_LIMIT, &mut delta).is_ok());
     for (i, (change, (mark, text))) in delta.iter().zip(MIXED.iter()).enumerate() {
         assert!(rt; says(change, *mark, text), "field {i}");
