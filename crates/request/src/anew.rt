@@ -1,5 +1,5 @@
 // A request written anew by the request writer: its parameters in a fixed order, and its password kept back.
-ghost use Rattle.std.specs.Prelude.{◌≡◌};
+ghost use Rattle.std.specs.Prelude.{◌≡◌, ℕ};
 ghost use Rattle.std.specs.Option.{option_map};
 ghost use Rattle.requests.specs.Answers.{request_in};
 ghost use Rattle.requests.specs.Read.{word_text};
@@ -19,9 +19,8 @@ fn create_anew(
     cid: Word,
     user: Option<Word>,
     password: Option<Word>,
-    session: u32,
 ) -> Result<usize, Refusal>
-    ensures { Anew session (create (word_text cid) (option_map word_text user) (option_map word_text password)) out.old result out.new }
+    ensures { (session : ℕ) → Anew session (create (word_text cid) (option_map word_text user) (option_map word_text password)) out.old result out.new }
 {
     let cid = Pair::new(Parameter::Cid, cid.text());
     let hidden = Pair::new(Parameter::Password, REDACTED);
@@ -50,14 +49,8 @@ fn bind_anew(out: &mut [u8], session: u32) -> Result<usize, Refusal>
     compose(out, Name::BindSession, &pairs)
 }
 
-fn add_anew(
-    out: &mut [u8],
-    request: Word,
-    subscription: u32,
-    group: Word,
-    session: u32,
-) -> Result<usize, Refusal>
-    ensures { Anew session (add (word_text request) subscription (word_text group)) out.old result out.new }
+fn add_anew(out: &mut [u8], request: Word, subscription: u32, group: Word) -> Result<usize, Refusal>
+    ensures { (session : ℕ) → Anew session (add (word_text request) subscription (word_text group)) out.old result out.new }
 {
     let id = numbered(b"", subscription);
     let pairs = [
@@ -72,13 +65,8 @@ fn add_anew(
     compose(out, Name::Control, &pairs)
 }
 
-fn delete_anew(
-    out: &mut [u8],
-    request: Word,
-    subscription: u32,
-    session: u32,
-) -> Result<usize, Refusal>
-    ensures { Anew session (delete (word_text request) subscription) out.old result out.new }
+fn delete_anew(out: &mut [u8], request: Word, subscription: u32) -> Result<usize, Refusal>
+    ensures { (session : ℕ) → Anew session (delete (word_text request) subscription) out.old result out.new }
 {
     let id = numbered(b"", subscription);
     let pairs = [
@@ -89,8 +77,8 @@ fn delete_anew(
     compose(out, Name::Control, &pairs)
 }
 
-fn rebind_anew(out: &mut [u8], request: Word, session: u32) -> Result<usize, Refusal>
-    ensures { Anew session (rebind (word_text request)) out.old result out.new }
+fn rebind_anew(out: &mut [u8], request: Word) -> Result<usize, Refusal>
+    ensures { (session : ℕ) → Anew session (rebind (word_text request)) out.old result out.new }
 {
     let pairs = [
         Pair::new(Parameter::RequestId, request.text()),
@@ -108,17 +96,17 @@ pub(crate) fn write_anew(out: &mut [u8], request: Request, session: u32) -> Resu
             cid,
             user,
             password,
-        } => create_anew(out, cid, user, password, session),
+        } => create_anew(out, cid, user, password),
         Request::Bind => bind_anew(out, session),
         Request::Add {
             request,
             subscription,
             group,
-        } => add_anew(out, request, subscription, group, session),
+        } => add_anew(out, request, subscription, group),
         Request::Delete {
             request,
             subscription,
-        } => delete_anew(out, request, subscription, session),
-        Request::ForceRebind { request } => rebind_anew(out, request, session),
+        } => delete_anew(out, request, subscription),
+        Request::ForceRebind { request } => rebind_anew(out, request),
     }
 }
