@@ -68,8 +68,5 @@ pub(crate) fn unspell(line: &[u8]) -> Option<ArrayVec<u8, SPELLED_LIMIT>>
             Step::More(next) => next,
         };
     }
-    match behind {
-        Behind::Nothing => Some(bytes),
-        _ => None,
-    }
+    matches!(behind, Behind::Nothing).then_some(bytes)
 }
