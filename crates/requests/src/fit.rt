@@ -21,10 +21,7 @@ const SESSIONS: Limits = Limits {
 fn is_numeral(digits: &[u8]) -> bool
     ensures { result ≡ is_numeral digits.now }
 {
-    match digits {
-        [] | [b'0', ..] => false,
-        _ => all_of(digits, Class::Digit),
-    }
+    !matches!(digits, [] | [b'0', ..]) && all_of(digits, Class::Digit)
 }
 
 fn is_group(text: &[u8]) -> bool
@@ -42,10 +39,7 @@ fn is_request_id(text: &[u8]) -> bool
 fn is_session(text: &[u8], session: u32) -> bool
     ensures { result ≡ same_bytes text.now (session_name session) }
 {
-    match text {
-        [b'S', digits @ ..] => read_number(digits, SESSIONS) == Some(session),
-        _ => false,
-    }
+    matches!(text, [b'S', digits @ ..] if read_number(digits, SESSIONS) == Some(session))
 }
 
 impl Parameter {

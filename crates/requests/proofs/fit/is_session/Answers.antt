@@ -1,4 +1,4 @@
-use Rattle.std.proofs.Common.{◌≡◌, ℕ, ◌-◌, ◌≤◌, ◌<◌, ◌^◌, false, ◌&&◌, eqb, List, [], ◌∷◌, length, get_or, take, drop, Some, None, decimal, Decides, Option, sym, refl, ap, ◌∙◌, arith, lit<}
+use Rattle.std.proofs.Common.{◌≡◌, ℕ, ◌-◌, ◌≤◌, ◌<◌, ◌^◌, false, ◌&&◌, eqb, List, [], ◌∷◌, length, get_or, take, drop, Some, None, decimal, Decides, Option, sym, refl, ap, ◌∙◌, arith, rules, lit<}
 use Rattle.std.specs.Bool.{one_answer}
 use Rattle.std.specs.Option.{option_eq}
 use Rattle.std.proofs.lemmas.Bool.{both_ways, eqb-true, eq-eqb}
@@ -10,6 +10,7 @@ use Rattle.tlcp.proofs.Numerals.{reads-decimal}
 use Rattle.requests.specs.Values.{session_name}
 use Rattle.requests.proofs.Fitting.{decides-same}
 use Rattle.requests.proofs.fit.is_session.Goals as goal
+use Rattle.requests.proofs.fit.is_session.Goals.{After-eq}
 
 decides-some : (o : Option ℕ) (n : ℕ) → Decides (option_eq eqb o (Some n)) (o ≡ Some n)
 decides-some None n = (λ e. absurd (both_ways false refl e), λ e. cc)
@@ -28,7 +29,13 @@ session-is t n small some first = ap (λ ds. option_eq eqb (number_of 0 42949672
     headed [] some first = absurd (omega arith)
     headed (b ∷ ds) some first = ap (λ h. h && same_bytes ds (decimal n)) (eq-eqb b 83 first)
 
-pub returns-in-83 : goal.returns-in-83
-returns-in-83 c =
+compared : (c : After-eq) → c.eq.result ≡ same_bytes c.args.text.now (session_name c.args.session)
+compared c =
     c.eq.ensures ∙ ap (λ o. option_eq eqb o (Some c.args.session)) c.read_number.ensures.value
     ∙ session-is c.args.text.now c.args.session (omega arith) c.in-83.len_at_least (omega arith)
+
+pub returns-in-83 : goal.returns-in-83
+returns-in-83 c = search (rules, compared (goal.at.returns-in-83 c).After-eq)
+
+pub returns-in_default-2 : goal.returns-in_default-2
+returns-in_default-2 c = search (rules, compared (goal.at.returns-in_default-2 c).After-eq)
