@@ -118,6 +118,7 @@ impl Worded for Parameter {
 
 impl Parameter {
     // The parameter of a name that a word stands for.
+    // kept: an Option says all there is, and TryFrom takes one argument
     pub fn of(name: Name, word: &[u8]) -> Option<Parameter>
         ensures { result ≡ parameter_of name word.now }
     {
@@ -150,6 +151,7 @@ impl Worded for Form {
 
 impl Form {
     // The operation of a control request.
+    // kept: an Option says all there is; TryFrom would want an error that says no more
     pub(crate) fn of_operation(word: &[u8]) -> Option<Form>
         ensures { result ≡ operation_of word.now }
     {

@@ -23,6 +23,7 @@ pub(crate) struct Pair {
 // The pairs that have been read, each at the place of its parameter.
 #[derive(Clone, Copy)]
 pub(crate) struct Pairs {
+    // kept: by parameter index, in fixed memory
     slots: [Option<Pair>; PARAMETER_COUNT],
 }
 
