@@ -5,6 +5,7 @@ mod fit;
 mod name;
 mod pairs;
 mod request;
+mod whole;
 mod word;
 
 pub use fit::REQUEST_ID_LIMIT;

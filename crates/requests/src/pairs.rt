@@ -1,11 +1,11 @@
 // The pairs of a request.
-ghost use Rattle.std.specs.Prelude.{◌≡◌, ◌+◌, ◌≤◌, length, true, false, Some};
+ghost use Rattle.std.specs.Prelude.{◌≡◌, ◌+◌, ◌≤◌, length, true, Some};
 ghost use Rattle.std.specs.Option.{option_map};
 ghost use Rattle.tlcp.specs.Said.{on_ok};
 ghost use Rattle.requests.specs.Limits.{request_limit};
 ghost use Rattle.requests.specs.Read.{pair_in, pairs_in, word_text};
 ghost use Rattle.tlcp.specs.Dividing.{divided_by};
-ghost use Rattle.requests.specs.Requests.{no_pairs, pair_of, read_pair, read_pairs, text_of, is_given, lacks, unfit_of, unfit, parameters, check_values};
+ghost use Rattle.requests.specs.Requests.{no_pairs, pair_of, read_pair, read_pairs, text_of, is_given, lacks, unfit_of, unfit, parameters};
 
 use crate::name::{Name, PARAMETER_COUNT, Parameter, is_in};
 use crate::word::{Word, read_value};
@@ -110,20 +110,6 @@ impl Pairs {
             .iter()
             .filter_map(|p| self.unfit_at(taken, *p))
             .min()
-    }
-
-    // Checks the values of some parameters, which are given, in their order.
-    pub(crate) fn check_values(&self, some: &[Parameter], session: u32) -> Result<(), Refusal>
-        requires { lacks some.now (pairs_in self.now) ≡ false }
-        ensures { result ≡ check_values session some.now (pairs_in self.now) }
-    {
-        for p in some {
-            let pair = self.given(*p);
-            if !p.fits(pair.word.text(), session) {
-                return Err(p.fault().at(pair.value_at));
-            }
-        }
-        Ok(())
     }
 }
 

@@ -1,20 +1,22 @@
 // Requests.
-ghost use Rattle.std.specs.Prelude.{◌≡◌, ◌≤◌, [], length, true, false};
+ghost use Rattle.std.specs.Prelude.{◌≡◌, ◌≤◌, length, true, if◌then◌else◌, Err, MatchOption};
 ghost use Rattle.tlcp.specs.Lines.{and_then};
+ghost use Rattle.tlcp.specs.Lists.{refusal};
 ghost use Rattle.tlcp.specs.Said.{on_ok};
+ghost use Rattle.row.specs.declared.fault.Fault.TheVariants.{Parts};
 ghost use Rattle.requests.specs.Answers.{asked, request_in};
 ghost use Rattle.requests.specs.Asked.{ReadsAsked};
 ghost use Rattle.requests.specs.Limits.{request_limit};
 ghost use Rattle.requests.specs.Read.{pairs_in};
 ghost use Rattle.requests.specs.Names.{first_needs, needs};
-ghost use Rattle.requests.specs.declared.name.Parameter.TheVariants.{SubscriptionId};
-ghost use Rattle.requests.specs.Requests.{is_given, lacks, form_of, id_of, read_form, read_named, read_request, request_of, text_of};
+ghost use Rattle.requests.specs.Requests.{form_of, lacks, read_form, read_named, read_request};
 
 use crate::name::{Form, Name, Parameter};
 use crate::pairs::{Pairs, read_pairs};
+use crate::whole::Whole;
 use crate::word::Word;
 use row::{Fault, Refusal};
-use tlcp::{Limits, find_end, read_number};
+use tlcp::find_end;
 
 // The bytes of a request.
 pub const REQUEST_LIMIT: usize = 2048;
@@ -43,11 +45,13 @@ pub enum Request {
 }
 
 impl Pairs {
-    // The form of a request of this name, whose first needs are given.
-    fn form(&self, name: Name) -> Result<Form, Refusal>
-        requires { lacks (first_needs name) (pairs_in self.now) ≡ false }
-        ensures { result ≡ form_of name (pairs_in self.now) }
+    // The form of a request of this name, if its first needs are given.
+    fn form(&self, name: Name, end: usize) -> Result<Form, Refusal>
+        ensures { result ≡ (if lacks (first_needs name) (pairs_in self.now) then Err (refusal Parts end) else form_of name (pairs_in self.now)) }
     {
+        if self.lack(name.first_needs()) {
+            return Err(Fault::Parts.at(end));
+        }
         match name {
             Name::CreateSession => Ok(Form::Create),
             Name::BindSession => Ok(Form::Bind),
@@ -58,64 +62,33 @@ impl Pairs {
         }
     }
 
-    fn subscription(&self) -> u32
-        requires { is_given SubscriptionId (pairs_in self.now) ≡ true }
-        ensures { result ≡ id_of (λ p. text_of p (pairs_in self.now)) }
+    // These pairs with a form, if all that it needs is given.
+    fn whole(&self, form: Form) -> Option<Whole<'_>>
+        ensures { MatchOption result (lacks (needs form) (pairs_in self.now) ≡ true) (λ w. (w.form ≡ form) × (w.pairs.now ≡ self.now)) }
     {
-        // kept: its value was checked before; a clause that says so for each form is longer than this default
-        let id = self.given(Parameter::SubscriptionId);
-        read_number(id.word.text(), Limits::ID).unwrap_or(0)
-    }
-
-    // What the pairs ask for in this form, whose needs are given.
-    fn request(&self, form: Form) -> Request
-        requires { lacks (needs form) (pairs_in self.now) ≡ false }
-        ensures { request_in result ≡ request_of (λ p. text_of p (pairs_in self.now)) form }
-    {
-        match form {
-            Form::Create => Request::Create {
-                cid: self.given(Parameter::Cid).word,
-                user: self.word(Parameter::User),
-                password: self.word(Parameter::Password),
-            },
-            Form::Bind => Request::Bind,
-            Form::Add => Request::Add {
-                request: self.given(Parameter::RequestId).word,
-                subscription: self.subscription(),
-                group: self.given(Parameter::Group).word,
-            },
-            Form::Delete => Request::Delete {
-                request: self.given(Parameter::RequestId).word,
-                subscription: self.subscription(),
-            },
-            Form::ForceRebind => Request::ForceRebind {
-                request: self.given(Parameter::RequestId).word,
-            },
+        if self.lack(form.needs()) {
+            return None;
         }
+        Some(Whole { pairs: self, form })
     }
 
     // What the pairs ask for in this form, if they are just what it takes.
     fn read_form(&self, form: Form, end: usize, session: u32) -> Result<Request, Refusal>
         ensures { on_ok request_in result ≡ read_form session end (pairs_in self.now) form }
     {
-        if self.lack(form.needs()) {
-            return Err(Fault::Parts.at(end));
-        }
+        let whole = self.whole(form).ok_or(Fault::Parts.at(end))?;
         if let Some(at) = self.unfit(form.takes()) {
             return Err(Fault::Parts.at(at));
         }
-        self.check_values(form.needs(), session)?;
-        Ok(self.request(form))
+        whole.check(session)?;
+        Ok(whole.request())
     }
 
     // What the pairs ask for under this name.
     fn read_named(&self, name: Name, end: usize, session: u32) -> Result<Request, Refusal>
         ensures { on_ok request_in result ≡ read_named session end name (pairs_in self.now) }
     {
-        if self.lack(name.first_needs()) {
-            return Err(Fault::Parts.at(end));
-        }
-        self.read_form(self.form(name)?, end, session)
+        self.read_form(self.form(name, end)?, end, session)
     }
 }
 
