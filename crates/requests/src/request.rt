@@ -80,8 +80,7 @@ impl Pairs {
         if let Some(at) = self.unfit(form.takes()) {
             return Err(Fault::Parts.at(at));
         }
-        whole.check(session)?;
-        Ok(whole.request())
+        whole.request(session)
     }
 
     // What the pairs ask for under this name.

@@ -1,9 +1,13 @@
 // The pairs of a request that has all that its form needs.
-ghost use Rattle.std.specs.Prelude.{◌≡◌, false};
+ghost use Rattle.std.specs.Prelude.{◌≡◌, false, None};
+ghost use Rattle.tlcp.specs.Limits.{id_limit};
+ghost use Rattle.tlcp.specs.Numbers.{number_of};
+ghost use Rattle.tlcp.specs.Said.{on_ok};
 ghost use Rattle.requests.specs.Answers.{request_in};
 ghost use Rattle.requests.specs.Names.{needs};
 ghost use Rattle.requests.specs.Read.{pairs_in};
-ghost use Rattle.requests.specs.Requests.{check_values, id_of, lacks, request_of, text_of};
+ghost use Rattle.requests.specs.Requests.{check_values, fitting_or, lacks, value_of};
+ghost use Rattle.requests.specs.declared.name.Parameter.TheVariants.{SubscriptionId};
 
 use crate::name::{Form, Parameter};
 use crate::pairs::Pairs;
@@ -21,7 +25,7 @@ pub(crate) struct Whole<'a> {
 
 impl Whole<'_> {
     // Checks the values that the form needs, in their order.
-    pub(crate) fn check(&self, session: u32) -> Result<(), Refusal>
+    fn check(&self, session: u32) -> Result<(), Refusal>
         ensures { result ≡ check_values session (needs self.now.form) (pairs_in self.now.pairs.now) }
     {
         for p in self.form.needs() {
@@ -33,21 +37,21 @@ impl Whole<'_> {
         Ok(())
     }
 
-    fn subscription(&self) -> u32
-        ensures { result ≡ id_of (λ p. text_of p (pairs_in self.now.pairs.now)) }
+    // The ID of a subscription: nothing where the value is no such number.
+    fn subscription(&self) -> Option<u32>
+        ensures { result ≡ number_of 1 id_limit (value_of SubscriptionId (pairs_in self.now.pairs.now)) }
     {
-        // kept: its value was checked before; a clause that says so for each form is longer than this default
-        let id = self.pairs.word(Parameter::SubscriptionId);
-        id.and_then(|id| read_number(id.text(), Limits::ID))
-            .unwrap_or(0)
+        let id = self.pairs.word(Parameter::SubscriptionId)?;
+        read_number(id.text(), Limits::ID)
     }
 
-    // What the pairs ask for in the form.
-    pub(crate) fn request(&self) -> Request
-        ensures { request_in result ≡ request_of (λ p. text_of p (pairs_in self.now.pairs.now)) self.now.form }
+    // What the pairs ask for in the form, if it takes their values.
+    pub(crate) fn request(&self, session: u32) -> Result<Request, Refusal>
+        ensures { on_ok request_in result ≡ fitting_or session self.now.form (pairs_in self.now.pairs.now) None }
     {
+        self.check(session)?;
         let pairs = self.pairs;
-        match self.form {
+        Ok(match self.form {
             Form::Create => Request::Create {
                 cid: pairs.given(Parameter::Cid).word,
                 user: pairs.word(Parameter::User),
@@ -56,16 +60,16 @@ impl Whole<'_> {
             Form::Bind => Request::Bind,
             Form::Add => Request::Add {
                 request: pairs.given(Parameter::RequestId).word,
-                subscription: self.subscription(),
+                subscription: self.subscription().unwrap(),
                 group: pairs.given(Parameter::Group).word,
             },
             Form::Delete => Request::Delete {
                 request: pairs.given(Parameter::RequestId).word,
-                subscription: self.subscription(),
+                subscription: self.subscription().unwrap(),
             },
             Form::ForceRebind => Request::ForceRebind {
                 request: pairs.given(Parameter::RequestId).word,
             },
-        }
+        })
     }
 }
