@@ -16,14 +16,17 @@ decides-some : (o : Option ℕ) (n : ℕ) → Decides (option_eq eqb o (Some n))
 decides-some None n = (λ e. absurd (both_ways false refl e), λ e. cc)
 decides-some (Some m) n = (λ e. ap Some (eqb-true m n e), λ e. let same : m ≡ n = cc in eq-eqb m n same)
 
--- digits are read as a number of 32 bits exactly where they are its decimal text
-numeral : (ds : List ℕ) (n : ℕ) → n < 2 ^ 32 → option_eq eqb (number_of 0 4294967295 ds) (Some n) ≡ same_bytes ds (decimal n)
-numeral ds n small =
-    let reads = reads-decimal 0 4294967295 n ds (lit< tt) in
-    one_answer _ _ (Decides-like _ (λ e. (reads.0 e).0) (λ e. reads.1 e (omega arith) (omega arith)) (decides-some (number_of 0 4294967295 ds) n)) (decides-same ds (decimal n))
+abbrev highest : ℕ
+highest = 2 ^ 32 - 1
 
-session-is : (t : List ℕ) (n : ℕ) → n < 2 ^ 32 → 1 ≤ length t → get_or t 0 0 ≡ 83 → option_eq eqb (number_of 0 4294967295 (take (length t - 1) (drop 1 t))) (Some n) ≡ same_bytes t (session_name n)
-session-is t n small some first = ap (λ ds. option_eq eqb (number_of 0 4294967295 ds) (Some n)) (take_rest t 1) ∙ numeral (drop 1 t) n small ∙ sym (headed t some first)
+-- digits are read as a number of 32 bits exactly where they are its decimal text
+numeral : (ds : List ℕ) (n : ℕ) → n < 2 ^ 32 → option_eq eqb (number_of 0 highest ds) (Some n) ≡ same_bytes ds (decimal n)
+numeral ds n small =
+    let reads = reads-decimal 0 highest n ds (lit< tt) in
+    one_answer _ _ (Decides-like _ (λ e. (reads.0 e).0) (λ e. reads.1 e (omega arith) (omega arith)) (decides-some (number_of 0 highest ds) n)) (decides-same ds (decimal n))
+
+session-is : (t : List ℕ) (n : ℕ) → n < 2 ^ 32 → 1 ≤ length t → get_or t 0 0 ≡ 83 → option_eq eqb (number_of 0 highest (take (length t - 1) (drop 1 t))) (Some n) ≡ same_bytes t (session_name n)
+session-is t n small some first = ap (λ ds. option_eq eqb (number_of 0 highest ds) (Some n)) (take_rest t 1) ∙ numeral (drop 1 t) n small ∙ sym (headed t some first)
   where
     headed : (t : List ℕ) → 1 ≤ length t → get_or t 0 0 ≡ 83 → same_bytes t (session_name n) ≡ same_bytes (drop 1 t) (decimal n)
     headed [] some first = absurd (omega arith)
