@@ -32,7 +32,7 @@ fn check(line: &[u8], session: u32, text: &mut [u8]) -> Result<usize, Refusal>
 pub(crate) fn push_answer(out: &mut Vec<u8>, line: &[u8], session: u32) -> Result<(), AllocError>
     ensures { OnOk result (out.new.items ≡ out.old.items ++ answer_text (checked session line.now)) }
 {
-    // kept: the request writer writes into lent bytes, and answers how many it took
+    // kept: the request writer holds lent bytes, by the project's rule
     let mut text = [0u8; REQUEST_LIMIT];
     match check(line, session, &mut text) {
         Ok(len) => {
