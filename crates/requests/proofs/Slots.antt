@@ -1,13 +1,11 @@
 -- Pairs at the places of their parameters.
-use Rattle.std.proofs.Common.{◌≡◌, ℕ, ◌+◌, false, cond, List, map, length, set, is_some, Some, None, Err, Option, sym, refl, ap, ◌∙◌}
+use Rattle.std.proofs.Common.{◌≡◌, ℕ, ◌+◌, false, List, map, set, is_some, Some, None, Option, sym, refl, ap, ◌∙◌, arith}
 use Rattle.std.specs.Option.{option_map}
-use Rattle.std.proofs.lemmas.List.{length-take-le, map-set}
+use Rattle.std.proofs.lemmas.List.{map-set}
 use Rattle.std.proofs.lemmas.Bool.{cond-false}
-use Rattle.tlcp.specs.Lists.{refusal}
 use Rattle.tlcp.specs.Said.{on_ok}
-use Rattle.row.specs.declared.fault.Fault.TheVariants.{Parts}
-use Rattle.tlcp.specs.Parts.{before, behind, place_of}
-use Rattle.tlcp.proofs.WordsAndEnds.{place-within}
+use Rattle.tlcp.specs.Lines.{front_at, piece, rest_at}
+use Rattle.tlcp.specs.Parts.{Piece, before, behind, place_of}
 use Rattle.requests.specs.Names.{index_of, parameter_of}
 use Rattle.requests.specs.Read.{pair_in}
 use Rattle.requests.specs.Requests.{Pairs, with_pair, add_pair, is_given, read_known, read_divided, read_pair}
@@ -24,13 +22,17 @@ given_is None = refl
 given_is (Some x) = refl
 
 -- a pair with `=`, whose parameter is known and not given yet
-module _ (n : Name) (at : ℕ) (s : List ℕ) (ps : Pairs) (front raw : List ℕ) (p : Parameter) (before-is : front ≡ before 61 s) (behind-is : Some raw ≡ behind 61 s) (known : Some p ≡ parameter_of n front) where
-  here : read_pair n at s ps ≡ cond (is_given p ps) (Err (refusal Parts at)) (on_ok (add_pair p at (at + (length front + 1)) ps) (read_value (at + (length front + 1)) raw))
-  here =
-      let size : place_of 61 s ≡ length front = sym (ap length before-is ∙ length-take-le (place_of 61 s) s (place-within 61 s)) in
-      ap (read_divided n at s ps) (sym behind-is)
-      ∙ (let same = sym before-is in λ i. read_known at (at + (size i + 1)) raw ps (parameter_of n (same i)))
-      ∙ ap (read_known at (at + (length front + 1)) raw ps) (sym known)
+module _ (n : Name) (pair front value : Piece) (ps : Pairs) (p : Parameter) (front-is : front ≡ front_at 61 pair) (value-is : Some value ≡ rest_at 61 pair) (known : Some p ≡ parameter_of n front.text) where
+  divided : (o : Option (List ℕ)) → Some value ≡ option_map (λ t. piece t (pair.at + (place_of 61 pair.text + 1))) o → read_divided n pair.at pair.text ps o ≡ read_known pair.at value.at value.text ps (parameter_of n (before 61 pair.text))
+  divided None e = absurd (let z : ◌≡◌ {A = ℕ} 0 1 = cc in omega arith)
+  divided (Some t) e =
+      let is : value ≡ piece t (pair.at + (place_of 61 pair.text + 1)) = cc in
+      ap (λ v. read_known pair.at v.at v.text ps (parameter_of n (before 61 pair.text))) (sym is)
 
-  pub pair_read : is_given p ps ≡ false → on_ok (add_pair p at (at + (length front + 1)) ps) (read_value (at + (length front + 1)) raw) ≡ read_pair n at s ps
-  pair_read e = sym (here ∙ cond-false _ _ _ e)
+  pub pair_read : is_given p ps ≡ false → on_ok (add_pair p pair.at value.at ps) (read_value value.at value.text) ≡ read_pair n pair.at pair.text ps
+  pair_read e =
+      sym
+      (divided (behind 61 pair.text) value-is
+      ∙ ap (λ f. read_known pair.at value.at value.text ps (parameter_of n f.text)) (sym front-is)
+      ∙ ap (read_known pair.at value.at value.text ps) (sym known)
+      ∙ cond-false _ _ _ e)

@@ -1,16 +1,15 @@
 // The pairs of a request.
-ghost use Rattle.std.specs.Prelude.{◌≡◌, ◌+◌, ◌≤◌, length, true, Some};
+ghost use Rattle.std.specs.Prelude.{◌≡◌, true, Some};
 ghost use Rattle.std.specs.Option.{option_map};
 ghost use Rattle.tlcp.specs.Said.{on_ok};
-ghost use Rattle.requests.specs.Limits.{request_limit};
 ghost use Rattle.requests.specs.Read.{pair_in, pairs_in, word_text};
 ghost use Rattle.tlcp.specs.Dividing.{divided_by};
 ghost use Rattle.requests.specs.Requests.{no_pairs, pair_of, read_pair, read_pairs, text_of, is_given, lacks, unfit_of, unfit, parameters};
 
 use crate::name::{Name, PARAMETER_COUNT, Parameter, is_in};
+use crate::request::Part;
 use crate::word::{Word, read_value};
 use row::{Fault, Refusal};
-use tlcp::split;
 
 // A pair: where it stands, where its value stands, and the value.
 #[derive(Clone, Copy)]
@@ -52,21 +51,22 @@ impl Pairs {
         self.slots[parameter.index()]
     }
 
-    // Reads the pair that stands from the place `at` on.
-    pub(crate) fn add(&mut self, name: Name, pair: &[u8], at: usize) -> Result<(), Refusal>
-        requires { at + length pair.now ≤ request_limit }
-        ensures { on_ok (λ _. pairs_in self.new) result ≡ read_pair name at pair.now (pairs_in self.old) }
+    // Reads a pair.
+    pub(crate) fn add(&mut self, name: Name, pair: Part<'_>) -> Result<(), Refusal>
+        ensures { on_ok (λ _. pairs_in self.new) result ≡ read_pair name pair.entry.at pair.entry.bytes.now (pairs_in self.old) }
     {
-        let (word, value) = split(pair, b'=');
-        let value = value.ok_or(Fault::Shape.at(at))?;
-        let unfit = Fault::Parts.at(at);
-        let parameter = Parameter::of(name, word).ok_or(unfit)?;
+        let (word, value) = pair.cut(b'=');
+        let value = value.ok_or(Fault::Shape.at(pair.at))?;
+        let unfit = Fault::Parts.at(pair.at);
+        let parameter = Parameter::of(name, word.bytes).ok_or(unfit)?;
         if self.get(parameter).is_some() {
             return Err(unfit);
         }
-        let value_at = at + (word.len() + 1);
-        let word = read_value(value, value_at)?;
-        self.slots[parameter.index()] = Some(Pair { at, value_at, word });
+        self.slots[parameter.index()] = Some(Pair {
+            at: pair.at,
+            value_at: value.at,
+            word: read_value(value)?,
+        });
         Ok(())
     }
 
@@ -113,16 +113,15 @@ impl Pairs {
     }
 }
 
-// Reads the pairs that stand from the place `start` on.
-pub(crate) fn read_pairs(body: &[u8], start: usize, name: Name) -> Result<Pairs, Refusal>
-    requires { start + length body.now ≤ request_limit }
-    ensures { on_ok pairs_in result ≡ read_pairs name start (divided_by 38 body.now) no_pairs }
+// Reads the pairs of a request's body.
+pub(crate) fn read_pairs(body: Part<'_>, name: Name) -> Result<Pairs, Refusal>
+    ensures { on_ok pairs_in result ≡ read_pairs name body.entry.at (divided_by 38 body.entry.bytes.now) no_pairs }
 {
     let mut pairs = Pairs::NONE;
-    let mut at = start;
-    for pair in body.split(|b| *b == b'&') {
-        pairs.add(name, pair, at)?;
-        at += pair.len() + 1;
+    let mut at = body.at;
+    for bytes in body.bytes.split(|b| *b == b'&') {
+        pairs.add(name, Part { bytes, at })?;
+        at += bytes.len() + 1;
     }
     Ok(pairs)
 }

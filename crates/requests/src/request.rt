@@ -16,10 +16,13 @@ use crate::pairs::{Pairs, read_pairs};
 use crate::whole::Whole;
 use crate::word::Word;
 use row::{Fault, Refusal};
-use tlcp::find_end;
+use tlcp::{Placed, find_end};
 
 // The bytes of a request.
 pub const REQUEST_LIMIT: usize = 2048;
+
+// A part of a request.
+pub(crate) type Part<'a> = Placed<'a, REQUEST_LIMIT>;
 
 // What a request asks for.
 #[derive(Clone, Copy)]
@@ -101,7 +104,11 @@ pub fn read_request(text: &[u8], session: u32) -> Result<Request, Refusal>
     }
     let end = find_end(text).ok_or(Fault::Shape.at(text.len()))?;
     let name = Name::of(&text[..end]).ok_or(Fault::Unknown.at(0))?;
-    let body = end + 2;
-    let pairs = read_pairs(&text[body..], body, name)?;
+    let at = end + 2;
+    let body = Part {
+        bytes: &text[at..],
+        at,
+    };
+    let pairs = read_pairs(body, name)?;
     pairs.read_named(name, text.len(), session)
 }

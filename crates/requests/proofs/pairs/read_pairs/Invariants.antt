@@ -6,10 +6,10 @@ use Rattle.requests.proofs.Spread.{spread}
 use Rattle.requests.proofs.pairs.read_pairs.Given as goal
 
 -- the pieces that are left decide, and end where the text does
-abbrev pub invariant-loop-pair : goal.invariant-loop-pair
-invariant-loop-pair l = record {
-  next : goal.iterator-loop-pair.can_next l.pair-iterator;
-  finite : goal.iterator-loop-pair.is_finite l.pair-iterator;
-  reads : read_pairs l.name l.start (divided_by 38 l.body) no_pairs ≡ read_pairs l.name l.at (drop (length l.yielded) (divided_by 38 l.body)) (pairs_in l.pairs);
-  ends : l.at + spread (drop (length l.yielded) (divided_by 38 l.body)) ≡ l.start + length l.body + 1;
+abbrev pub invariant-loop-bytes : goal.invariant-loop-bytes
+invariant-loop-bytes l = record {
+  next : goal.iterator-loop-bytes.can_next l.bytes-iterator;
+  finite : goal.iterator-loop-bytes.is_finite l.bytes-iterator;
+  reads : read_pairs l.name l.body.at (divided_by 38 l.body.bytes.now) no_pairs ≡ read_pairs l.name l.at (drop (length l.yielded) (divided_by 38 l.body.bytes.now)) (pairs_in l.pairs);
+  ends : l.at + spread (drop (length l.yielded) (divided_by 38 l.body.bytes.now)) ≡ l.body.at + length l.body.bytes.now + 1;
 }

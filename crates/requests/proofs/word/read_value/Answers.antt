@@ -9,4 +9,4 @@ pub returns : goal.returns
 returns c =
     let answer = passed c.decode.result c.in_ok-len.len c.in_ok-len.ensures.cases ∙ c.decode.ensures.answer in
     ap (on_ok word_text) (c.ok_or.ensures.value ∙ ap (ok_or c.of.result) c.at-2.ensures)
-    ∙ value_read c.args.raw.now c.args.at c.in_ok-len.len answer (replicate value_limit 0) c.decode.new.out c.of.result (sym c.if-not-all_of.ensures) refl c.decode.ensures.bytes c.of.ensures
+    ∙ value_read c.args.raw.bytes.now c.args.raw.at c.in_ok-len.len answer (replicate value_limit 0) c.decode.new.out c.of.result (sym c.if-not-all_of.ensures) refl c.decode.ensures.bytes c.of.ensures
