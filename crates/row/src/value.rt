@@ -40,6 +40,7 @@ impl Value for TextRecord {
         Text::new(text).map(|value| value.record())
     }
 
+    // kept: the same two lines as of `LogicRecord`; a trait over the checked types would be longer
     fn write(&self, out: &mut [u8; TEXT_LIMIT]) -> usize {
         let value = Text::check(*self).unwrap_or(Text::rest());
         value.write(out)

@@ -59,7 +59,8 @@ fn put_change<R: Value>(list: &mut Piped, change: &Change<R>) -> Result<(), Refu
         Mark::Same => Ok(()),
         Mark::Null => list.put(b"|#"),
         Mark::Value => {
-            let mut text = [0u8; TEXT_LIMIT];
+            // kept: a kind writes into bytes that are lent to it; it stands below `Bounded`
+            let mut text = [0; TEXT_LIMIT];
             let len = change.raw.write(&mut text);
             list.put(b"|")?;
             put_text(list, &text[..len])
