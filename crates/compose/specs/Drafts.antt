@@ -1,5 +1,5 @@
 -- A request that is being written: what its writer holds, and what each call makes of that.
-use Rattle.std.specs.Prelude.{ℕ, ◌+◌, Bool, true, false, cond, not, ◌&&◌, List, length, replicate, Ok, Err, Result, ◌==◌, nat_le, slice_index_or, slice_set}
+use Rattle.std.specs.Prelude.{ℕ, ◌+◌, Bool, true, false, cond, not, ◌&&◌, List, length, replicate, Ok, Err, Result, None, Some, Option, ◌==◌, nat_le, slice_index_or, slice_set}
 use Rattle.tlcp.specs.Lists.{refusal}
 use Rattle.row.specs.Texts.{padded}
 use Rattle.row.specs.declared.fault.Fault.TheVariants.{Parts}
@@ -10,6 +10,7 @@ use Rattle.requests.specs.Names.{index_of, is_in, parameter_count, parameters_of
 use Rattle.requests.specs.declared.name.Name.{Name}
 use Rattle.requests.specs.declared.name.Parameter.{Parameter}
 use Rattle.compose.specs.Written.{Pair, head_text, pair_text}
+use Rattle.compose.specs.declared.request.Begun.{Begun}
 use Rattle.compose.specs.declared.request.RequestWriter.{RequestWriter}
 
 -- the lent bytes, how many are written, the name, the parameters that were added, and whether the bytes outlive the writer
@@ -20,8 +21,17 @@ pub record Draft : Type 0 where
   pub given : List Bool
   pub kept : Bool
 
+-- where nothing is begun nothing is written, and no parameter may be added yet
+abbrev pub len_of : Option Begun → ℕ
+len_of None = 0
+len_of (Some b) = b.len
+
+abbrev pub given_of : Option Begun → List Bool
+given_of None = replicate parameter_count true
+given_of (Some b) = b.given
+
 abbrev pub draft_of : RequestWriter → Draft
-draft_of w = record { bytes = w.out.now; len = w.len; name = w.name; given = w.given; kept = w.kept }
+draft_of w = record { bytes = w.out.now; len = len_of w.begun; name = w.name; given = given_of w.begun; kept = w.kept }
 
 -- a draft over bytes that nothing was written to: no parameter may be added yet
 abbrev pub unbegun : Name → List ℕ → Draft

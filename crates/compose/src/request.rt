@@ -12,15 +12,20 @@ use requests::{Name, PARAMETER_COUNT, Parameter, VALUE_LIMIT, is_in};
 use row::{Fault, Refusal};
 use tlcp::Worded;
 
+// How much of a request is written, and which parameters it has. Marks by parameter index take fixed memory.
+#[derive(Clone, Copy)]
+struct Begun {
+    len: usize,
+    given: [bool; PARAMETER_COUNT],
+}
+
 // Holds the lent bytes until the request is finished. A password may be among them by then, so a request
 // that is left before leaves only zeros.
-// The flag and the marks stay: zeros are owed on every way out but that of `finish`, and marks by parameter index take
-// fixed memory.
+// kept: the flag; before `begin` the bytes stay as they were, from then on zeros are owed on every way out but by `finish`
 pub struct RequestWriter<'a> {
     out: &'a mut [u8],
-    len: usize,
     name: Name,
-    given: [bool; PARAMETER_COUNT],
+    begun: Option<Begun>,
     kept: bool,
 }
 
@@ -36,9 +41,8 @@ impl Drop for RequestWriter<'_> {
     {
         let RequestWriter {
             out,
-            len: _,
             name: _,
-            given: _,
+            begun: _,
             kept,
         } = self;
         if !kept {
@@ -48,6 +52,8 @@ impl Drop for RequestWriter<'_> {
 }
 
 impl<'a> RequestWriter<'a> {
+    // kept: `lent` of three functions: that the bytes are still the same ones is a fact of the step, which no invariant says
+
     // A writer over lent bytes, which leaves them alone until its request begins.
     pub fn new(out: &'a mut [u8], name: Name) -> RequestWriter<'a>
         ensures draft { draft_of result ≡ unbegun name out.old }
@@ -55,9 +61,8 @@ impl<'a> RequestWriter<'a> {
     {
         RequestWriter {
             out,
-            len: 0,
             name,
-            given: [true; PARAMETER_COUNT],
+            begun: None,
             kept: true,
         }
     }
@@ -70,8 +75,9 @@ impl<'a> RequestWriter<'a> {
         ensures lent { self.new.out.ghost_name ≡ self.old.out.ghost_name }
     {
         let name = self.name;
-        self.len = put_head(self.out, name)?;
-        self.given = [false; PARAMETER_COUNT];
+        let len = put_head(self.out, name)?;
+        let given = [false; PARAMETER_COUNT];
+        self.begun = Some(Begun { len, given });
         self.kept = false;
         Ok(())
     }
@@ -83,23 +89,27 @@ impl<'a> RequestWriter<'a> {
         ensures pairs { (xs : List written.Pair) → Holds (draft_of self.old) xs → Holds (draft_of self.new) (pairs_after result xs (pair parameter value.now)) }
         ensures lent { self.new.out.ghost_name ≡ self.old.out.ghost_name }
     {
+        let Some(mut begun) = self.begun else {
+            return Err(Fault::Parts.at(0));
+        };
         let i = parameter.index();
-        if self.given[i] || !is_in(parameter, self.name.parameters()) {
+        if begun.given[i] || !is_in(parameter, self.name.parameters()) {
             return Err(Fault::Parts.at(0));
         }
         if value.len() > VALUE_LIMIT {
             return Err(Fault::Length.at(0));
         }
-        let at = self.len;
+        let at = begun.len;
         let first = at == self.name.word().len() + 2;
-        self.len = put_pair(self.out, at, first, Pair::new(parameter, value))?;
-        self.given[i] = true;
+        begun.len = put_pair(self.out, at, first, Pair::new(parameter, value))?;
+        begun.given[i] = true;
+        self.begun = Some(begun);
         Ok(())
     }
 
     // The bytes are the caller's again, with the request in them.
     pub fn finish(self) -> Finished
-        ensures len { result.len ≡ self.entry.len }
+        ensures len { result.len ≡ (draft_of self.entry).len }
         ensures bytes { self.exit.0.now ≡ self.entry.out.now }
         ensures pairs { (xs : List written.Pair) → Holds (draft_of self.entry) xs → Stands self.entry.name xs self.exit.0.now result.len }
         ensures reads { ReadsBack }
@@ -107,20 +117,19 @@ impl<'a> RequestWriter<'a> {
         // kept: of `mut self`, with only the flag set, the proof did not close
         let RequestWriter {
             out,
-            len,
             name,
-            given,
+            begun,
             kept: _,
         } = self;
         // dropped when this returns, and leaves the bytes
         let kept = true;
         let _closing = RequestWriter {
             out,
-            len,
             name,
-            given,
+            begun,
             kept,
         };
+        let len = begun.map_or(0, |begun| begun.len);
         Finished { len }
     }
 }
