@@ -48,12 +48,12 @@ pub enum Message<'a> {
     },
 }
 
-impl Message<'_> {
-    // Its tag.
-    pub(crate) fn tag(self) -> Tag
-        ensures { result ≡ (saying_of self.entry).tag }
-    {
-        match self {
+// A message's tag.
+impl From<Message<'_>> for Tag {
+    ghost from_gives = { λ message tag. tag ≡ (saying_of message).tag };
+
+    fn from(message: Message<'_>) -> Tag {
+        match message {
             Message::Probe => Tag::Probe,
             Message::Sync(_) => Tag::Sync,
             Message::Loop(_) => Tag::Loop,
@@ -73,7 +73,9 @@ impl Message<'_> {
             Message::Conok { .. } => Tag::Conok,
         }
     }
+}
 
+impl Message<'_> {
     // Whether its numbers and codes are within their limits.
     pub(crate) fn is_within(self) -> bool
         ensures { result ≡ within (saying_of self.entry) }

@@ -21,7 +21,7 @@ fn compose(message: Message<'_>) -> Result<Draft, Refusal>
     ensures line { on_ok held result ≡ composed (word (saying_of message.entry).tag) (saying_of message.entry).given }
     ensures bytes { OnOk result (AllByRecursion Sound (saying_of message.entry).given) }
 {
-    let line = Draft::of(message.tag());
+    let line = Draft::of(message.into());
     match message {
         Message::Probe => Ok(line),
         Message::Sync(n) | Message::Loop(n) | Message::Unsub(n) => line.number(n),
