@@ -8,12 +8,7 @@ use std::alloc::AllocError;
 pub fn hold(held: &mut Vec<u8>, bytes: &[u8], limit: usize) -> Result<(), AllocError>
     ensures { OnOk result (held.new.items ≡ kept limit held.old.items bytes.now) }
 {
-    let room = limit.saturating_sub(held.len());
-    if bytes.len() <= room {
-        held.extend_from_slice(bytes)?;
-    } else {
-        held.extend_from_slice(&bytes[0..room])?;
-    }
+    held.extend_from_slice(front(bytes, limit.saturating_sub(held.len())))?;
     Ok(())
 }
 
