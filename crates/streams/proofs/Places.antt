@@ -1,66 +1,48 @@
 -- Where the first end stands, byte by byte and part by part.
-use Rattle.std.proofs.Common.{◌≡◌, ℕ, suc, ◌+◌, ◌*◌, ◌<◌, ◌≤◌, Bool, true, false, cond, ◌||◌, eqb, ltb, List, [], ◌∷◌, ◌++◌, length, get_or, drop, sym, refl, ap, ◌∙◌, zero-add, mul-suc, arith}
+use Rattle.std.proofs.Common.{◌≡◌, ℕ, suc, ◌+◌, ◌-◌, ◌*◌, ◌%◌, ◌<◌, ◌≤◌, Bool, true, false, cond, ◌||◌, eqb, ltb, List, [], ◌∷◌, ◌++◌, length, get_or, drop, Some, None, sym, refl, ap, ◌∙◌, zero-add, mul-suc, arith, ◌==◌}
+use Rattle.std.specs.List.{list_any, position, position_or_len}
 use Rattle.std.proofs.lemmas.List.{at_drop_more, at_drop_all}
-use Rattle.std.proofs.lemmas.Bool.{cond-true, cond-false, eq-eqb, ne_eqb, lt-ltb, le-ltb}
-use Rattle.std.proofs.lemmas.Bool.Decides.{nat_tests}
+use Rattle.std.proofs.lemmas.Bool.{both_ways, cond-true, cond-false, eq-eqb, ne_eqb, lt-ltb, le-ltb}
 use Rattle.tlcp.specs.Parts.{place_of}
-use Rattle.streams.specs.Ends.{holds}
-
-further : (n m : ℕ) → ltb (suc n) (suc m) ≡ ltb n m
-further n m = grind (arith, nat_tests)
+use Rattle.tlcp.proofs.Places.{place-is}
 
 module _ (b : ℕ) where
-  holds-first : (x : ℕ) (s : List ℕ) → holds b (x ∷ s) ≡ (eqb x b || holds b s)
-  holds-first x s = by (eqb x b)
-    where
-      by : (e : Bool) → ltb (cond e 0 (suc (place_of b s))) (suc (length s)) ≡ (e || holds b s)
-      by true = lt-ltb 0 (suc (length s)) (omega arith)
-      by false = further (place_of b s) (length s)
-
-  or-or : (p q r : Bool) → ((p || q) || r) ≡ (p || (q || r))
-  or-or true q r = refl
-  or-or false q r = refl
-
-  or-false : (p : Bool) → (p || false) ≡ p
-  or-false true = refl
-  or-false false = refl
-
-  pub holds_more : (s : List ℕ) (i : ℕ) (any : Bool) → i < length s → ((any || eqb (get_or s i 0) b) || holds b (drop (i + 1) s)) ≡ (any || holds b (drop i s))
-  holds_more s i any h =
-      or-or any (eqb (get_or s i 0) b) (holds b (drop (i + 1) s))
-      ∙ ap (λ t. any || t) (sym (at_drop_more (holds b) s i 0 h ∙ holds-first (get_or s i 0) (drop (i + 1) s)))
-
-  pub holds-no-more : (s : List ℕ) (i : ℕ) (any : Bool) → length s ≤ i → any ≡ (any || holds b (drop i s))
-  holds-no-more s i any h = sym (ap (λ t. any || t) (at_drop_all (holds b) s i h ∙ le-ltb 0 0 (omega arith)) ∙ or-false any)
+  abbrev is : ℕ → Bool
+  is x = x == b
 
   -- a part, and the bytes behind it
   module _ (rest : List ℕ) where
-    abbrev q : ℕ
-    q = place_of b rest
-
-    place-append : (part : List ℕ) → place_of b (part ++ rest) ≡ cond (holds b part) (place_of b part) (length part + q)
-    place-append [] = sym (cond-false (ltb 0 0) 0 (0 + q) (le-ltb 0 0 (omega arith)) ∙ zero-add q)
-    place-append (x ∷ part) = by (eqb x b) (place-append part)
+    place-append : (part : List ℕ) → place_of b (part ++ rest) ≡ cond (list_any is part) (place_of b part) (length part + place_of b rest)
+    place-append [] = sym (zero-add (place_of b rest))
+    place-append (x ∷ part) = by (is x) (list_any is part) (place-append part)
       where
-        p : ℕ
-        p = place_of b part
+        by : (e any : Bool) → place_of b (part ++ rest) ≡ cond any (place_of b part) (length part + place_of b rest) → cond e 0 (suc (place_of b (part ++ rest))) ≡ cond (e || any) (cond e 0 (suc (place_of b part))) (suc (length part) + place_of b rest)
+        by true any ih = refl
+        by false true ih = ap suc ih
+        by false false ih = ap suc ih ∙ omega arith
 
-        m : ℕ
-        m = length part
+    pub place-within : (part : List ℕ) → list_any is part ≡ true → place_of b (part ++ rest) ≡ place_of b part
+    place-within part e = place-append part ∙ cond-true (list_any is part) _ _ e
 
-        both : (e : Bool) → suc (cond e p (m + q)) ≡ cond e (suc p) (suc m + q)
-        both true = refl
-        both false = omega arith
+    pub place-behind : (part : List ℕ) → list_any is part ≡ false → place_of b (part ++ rest) ≡ length part + place_of b rest
+    place-behind part e = place-append part ∙ cond-false (list_any is part) _ _ e
 
-        by : (e : Bool) → place_of b (part ++ rest) ≡ cond (ltb p m) p (m + q) → cond e 0 (suc (place_of b (part ++ rest))) ≡ cond (ltb (cond e 0 (suc p)) (suc m)) (cond e 0 (suc p)) (suc m + q)
-        by true ih = sym (cond-true (ltb 0 (suc m)) 0 (suc m + q) (lt-ltb 0 (suc m) (omega arith)))
-        by false ih = ap suc ih ∙ both (ltb p m) ∙ ap (λ e. cond e (suc p) (suc m + q)) (sym (further p m))
+  pub place-short : (s : List ℕ) → list_any is s ≡ true → place_of b s < length s
+  place-short [] e = absurd (both_ways true (sym e) refl)
+  place-short (x ∷ s) e = by (is x) e (place-short s)
+    where
+      by : (here : Bool) → (here || list_any is s) ≡ true → (list_any is s ≡ true → place_of b s < length s) → cond here 0 (suc (place_of b s)) < suc (length s)
+      by true e ih = omega arith
+      by false e ih = omega (arith, ih e)
 
-    pub place-within : (part : List ℕ) → holds b part ≡ true → place_of b (part ++ rest) ≡ place_of b part
-    place-within part is = place-append part ∙ cond-true (holds b part) _ _ is
+  -- what the library's search answers, by the place
+  pub is-found : (s : List ℕ) (e : ℕ) → e ≡ place_of b s → e < length s → Some e ≡ position is s
+  is-found s e at short =
+      let same = at ∙ place-is b s in
+      ap Some same ∙ sym (cond-true (ltb (position_or_len is s) (length s)) _ _ (lt-ltb _ _ (omega (arith, same))))
 
-    pub place-behind : (part : List ℕ) → holds b part ≡ false → place_of b (part ++ rest) ≡ length part + place_of b rest
-    place-behind part is = place-append part ∙ cond-false (holds b part) _ _ is
+  pub is-nowhere : (s : List ℕ) → length s ≤ place_of b s → None ≡ position is s
+  is-nowhere s long = sym (cond-false (ltb (position_or_len is s) (length s)) _ _ (le-ltb _ _ (omega (arith, place-is b s))))
 
   -- a turn at the byte i: the end is counted on by step as long as no b came
   module _ (s : List ℕ) (i end step : ℕ) (sofar : end + step * place_of b (drop i s) ≡ place_of b s) where
@@ -82,3 +64,9 @@ module _ (b : ℕ) where
         let at : place_of b (drop i s) ≡ 0 = at_drop_all (place_of b) s i h in
         let is : end + step * 0 ≡ place_of b s = ap (λ n. end + step * n) (sym at) ∙ sofar in
         omega arith
+
+-- what stands behind the parts of 16 bytes
+pub rest-is : (s rest left : List ℕ) (n : ℕ) → 16 * n + length left ≡ length s → length left < 16 → left ≡ drop (16 * n) s → rest ≡ drop (length s - length s % 16) s → rest ≡ left
+rest-is s rest left n long short at cut =
+    let e : length s - length s % 16 ≡ 16 * n = omega arith in
+    cut ∙ ap (λ m. drop m s) e ∙ sym at

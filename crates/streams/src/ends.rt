@@ -1,9 +1,12 @@
 // Where lines end. A block is searched part by part, and within a part with no branch on what a byte is: a wrong
 // guess at where a line ends costs more than the rest of the part.
-ghost use Rattle.std.specs.Prelude.{◌≡◌, ◌+◌, ◌≤◌, length, MatchOption};
+ghost use Rattle.std.specs.Prelude.{◌≡◌, ◌+◌, ◌≤◌, length, position, MatchOption, ◌==◌};
+ghost use Rattle.std.specs.List.{list_any};
 ghost use Rattle.std.specs.Option.{option_map};
 ghost use Rattle.tlcp.specs.Parts.{place_of, before, behind};
-ghost use Rattle.streams.specs.Ends.{holds, line_end};
+ghost use Rattle.streams.specs.Ends.{line_end};
+
+use tlcp::find;
 
 // The bytes that are looked at together.
 const PART: usize = 16;
@@ -11,18 +14,15 @@ const PART: usize = 16;
 const LINE_END: u8 = b'\n';
 
 // Whether a line ends in the part.
+// kept: `any` leaves by a branch, and then `follow` takes some percent longer
 fn has_end(part: &[u8]) -> bool
-    ensures { result ≡ holds line_end part.now }
+    ensures { result ≡ list_any (λ b. b == line_end) part.now }
 {
-    let mut any = false;
-    for b in part {
-        any = any | (*b == LINE_END);
-    }
-    any
+    part.iter().fold(false, |any, b| any | (*b == LINE_END))
 }
 
-// The place of the first end in the part, or the part's length where there is none. `position` leaves by a branch, and
-// then the search takes a third longer.
+// The place of the first end in the part, or the part's length where there is none.
+// kept: `position` leaves by a branch, and then the search takes a third longer
 fn end_in(part: &[u8]) -> usize
     ensures value { result ≡ place_of line_end part.now }
     ensures within { result ≤ length part.now }
@@ -39,18 +39,19 @@ fn end_in(part: &[u8]) -> usize
     end
 }
 
-// The place of the first end, or the length where there is none, as the parts have it.
-fn find_end(s: &[u8]) -> usize
-    ensures { result ≡ place_of line_end s.now }
+// The place of the first end, as the parts have it.
+fn find_end(s: &[u8]) -> Option<usize>
+    ensures { result ≡ position (λ b. b == line_end) s.now }
 {
     let parts = s.chunks_exact(PART);
     let rest = parts.remainder();
     for (i, part) in parts.enumerate() {
         if has_end(part) {
-            return PART * i + end_in(part);
+            return Some(PART * i + end_in(part));
         }
     }
-    s.len() - rest.len() + end_in(rest)
+    let end = find(rest, LINE_END)?;
+    Some(s.len() - rest.len() + end)
 }
 
 // What stands before the first end, and what stands behind it, if there is one.
@@ -59,10 +60,8 @@ pub fn split_line(s: &[u8]) -> (&[u8], Option<&[u8]>)
     ensures back { option_map (λ x. x.now) result.1 ≡ behind line_end s.now }
     ensures sizes { MatchOption result.1 (length result.0.now ≡ length s.now) (λ t. length result.0.now + (length t.now + 1) ≡ length s.now) }
 {
-    let end = find_end(s);
-    if end < s.len() {
-        (&s[..end], Some(&s[end + 1..]))
-    } else {
-        (s, None)
+    match find_end(s) {
+        Some(end) => (&s[..end], Some(&s[end + 1..])),
+        None => (s, None),
     }
 }

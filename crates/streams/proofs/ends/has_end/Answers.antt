@@ -1,13 +1,11 @@
-use Rattle.std.proofs.Common.{refl, ◌∙◌}
+use Rattle.std.proofs.Common.{◌≡◌, refl, subst, rules, ◌==◌}
+use Rattle.std.specs.List.{list_any}
+use Rattle.std.proofs.lemmas.List.Folds.{list_any-append}
+use Rattle.std.proofs.lemmas.Fn.{fold_over, slice_gives, fronts}
 use Rattle.streams.specs.Ends.{line_end}
-use Rattle.streams.proofs.Places.{holds_more, holds-no-more}
 use Rattle.streams.proofs.ends.has_end.Goals as goal
 
-pub loop-b-init : goal.loop-b-init
-loop-b-init c = refl
-
-pub loop-b-preserved : goal.loop-b-preserved
-loop-b-preserved c = let turn = c.loop-b in holds_more line_end c.args.part.now turn.b-index turn.any c.loop-b-test.true ∙ turn.invariant
-
 pub returns : goal.returns
-returns c = let turn = c.loop-b in holds-no-more line_end c.args.part.now turn.b-index turn.any c.loop-b-test.false ∙ turn.invariant
+returns c = subst (λ bytes. c.fold.result ≡ list_any (λ b. b == line_end) bytes) c.iter.ensures.rest
+    (fold_over fronts (λ b. b.now) _ (λ before any. any ≡ list_any (λ b. b == line_end) before) _ (λ before a x b f k call. search (rules, list_any-append))
+    _ _ _ _ (slice_gives c.iter.result) refl c.fold.ensures.ran)

@@ -1,14 +1,17 @@
-use Rattle.std.proofs.Common.{refl, arith}
-use Rattle.tlcp.proofs.Places.{cut-here, cut-nowhere}
+use Rattle.std.proofs.Common.{sym, refl, ◌∙◌}
+use Rattle.tlcp.proofs.Places.{found-at, found-nowhere, cut-here, cut-nowhere}
 use Rattle.streams.specs.Ends.{line_end}
 use Rattle.streams.proofs.ends.split_line.Goals as goal
 
-pub returns-then-end-s : goal.returns-then-end-s
-returns-then-end-s c =
-    let h = cut-here line_end c.args.s.now c.find_end-end.result c.find_end-end.ensures c.if-end-s.true in
+pub returns-in-Some : goal.returns-in-Some
+returns-in-Some c =
+    let s = c.args.s.now in
+    let (is, within) = found-at line_end s c.in-Some.end (sym c.in-Some.is ∙ c.find_end.ensures) in
+    let h = cut-here line_end s c.in-Some.end is within in
     record { front = h.0; back = h.1; sizes = h.2 }
 
-pub returns-else-end-s : goal.returns-else-end-s
-returns-else-end-s c =
-    let h = cut-nowhere line_end c.args.s.now (omega (arith, c.find_end-end.ensures, c.if-end-s.false)) in
+pub returns-in-None : goal.returns-in-None
+returns-in-None c =
+    let s = c.args.s.now in
+    let h = cut-nowhere line_end s (found-nowhere line_end s (sym c.in-None.is ∙ c.find_end.ensures)) in
     record { front = h.0; back = h.1; sizes = refl }
