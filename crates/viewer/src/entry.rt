@@ -5,7 +5,7 @@ ghost use Rattle.viewer.specs.Entries.{find_entry, find_open, fits, fits_open};
 pub const TAP_LIMIT: usize = 8;
 
 // What the viewer knows of a tap: its subscription ID, and the field count if that is open.
-// No ID is 0 by the protocol's rule, so 0 stands for none.
+// kept: no ID is 0, so 0 stands for none; of an `Option`, `fits` and `waiting` would know two states, `None` and `Some(0)`
 #[derive(Clone, Copy, PartialEq, Debug)]
 pub struct Entry {
     pub id: u32,
