@@ -32,6 +32,7 @@ pub(crate) fn find_open(entries: &[Entry], id: u32) -> Option<(usize, usize)>
     ensures value { result ≡ find_open id entries.now }
     ensures within { IfSome result (λ found. found.0 < length entries.now) }
 {
+    // kept: the entry is asked twice; of `enumerate` and `find_map` the proof did not close
     let i = find_open_index(entries, id)?;
     let fields = entries[i].fields?;
     Some((i, fields))
