@@ -1,17 +1,14 @@
 -- What the decoder's answer tells of a value's text.
-use Rattle.std.proofs.Common.{◌≡◌, ℕ, suc, ◌-◌, ◌≤◌, Bool, true, false, eqb, List, [], ◌∷◌, length, get_or, take, drop, None, Ok, Option, sym, refl, ap, ◌∙◌, arith, ◌==◌}
+use Rattle.std.proofs.Common.{◌≡◌, ℕ, suc, ◌≤◌, Bool, true, false, eqb, List, [], ◌∷◌, length, take, None, Ok, sym, refl, ap, ◌∙◌, arith, ◌==◌}
 use Rattle.std.specs.List.{position}
-use Rattle.std.proofs.lemmas.List.{take_rest}
-use Rattle.std.proofs.lemmas.Bool.{cond-true, cond-false, eq-eqb}
+use Rattle.std.proofs.lemmas.Bool.{cond-true, cond-false}
 use Rattle.tlcp.specs.Escapes.{Decodes, nothing, plain, decoded, decode_answer, overlaid}
-use Rattle.tlcp.specs.Lists.{read_content, read_text, text_or, caret_or, read_value}
-use Rattle.tlcp.specs.Numbers.{number_of}
+use Rattle.tlcp.specs.Lists.{read_content, read_text, text_or}
 use Rattle.tlcp.specs.Parts.{place_of}
 use Rattle.tlcp.proofs.Places.{found-nowhere}
 use Rattle.tlcp.proofs.WordsAndEnds.{place-within}
 use Rattle.tlcp.proofs.Encoded.{sound-answer, take-overlaid}
 use Rattle.tlcp.proofs.Unescaped.{reads-escapes}
-use Rattle.row.specs.Limits.{field_limit}
 
 -- the text in the buffer is the one that the value stands for
 pub decoded-read : (allowed : List ℕ → Bool) (v : List ℕ) (n : ℕ) (xs buffer : List ℕ) → Ok n ≡ decode_answer (decoded v) → buffer ≡ overlaid (decoded v).bytes xs → n ≤ length xs → read_text allowed (take n buffer) ≡ read_content allowed v
@@ -33,9 +30,3 @@ pub plain-read : (allowed : List ℕ → Bool) (v : List ℕ) → None ≡ posit
 plain-read allowed v none =
     let all : place_of 37 v ≡ length v = omega (arith, found-nowhere 37 v none, place-within 37 v) in
     sym (ap (λ d. text_or allowed d.bytes d.fault) ((reads-escapes v v).1 (plain-decodes v all)))
-
--- a value that begins with a caret
-pub caret-read : (allowed : List ℕ → Bool) (v : List ℕ) (d : Option ℕ) → 1 ≤ length v → get_or v 0 0 ≡ 94 → d ≡ number_of 1 field_limit (take (length v - 1) (drop 1 v)) → caret_or d ≡ read_value allowed v
-caret-read allowed [] d h first e = absurd (omega arith)
-caret-read allowed (b ∷ v) d h first e =
-    ap caret_or (e ∙ ap (number_of 1 field_limit) (take_rest (b ∷ v) 1)) ∙ sym (cond-true (eqb b 94) _ _ (eq-eqb b 94 first))

@@ -1,17 +1,20 @@
 -- Texts with any bytes escaped: what they hold, how long they are, and that they are read back.
-use Rattle.std.proofs.Common.{◌≡◌, ℕ, ◌/◌, ◌%◌, ◌<◌, ◌≤◌, Bool, true, false, eqb, List, [], ◌∷◌, ◌++◌, length, take, drop, Some, None, Ok, Option, sym, refl, ap, ◌∙◌, arith}
+use Rattle.std.proofs.Common.{◌≡◌, ℕ, ◌+◌, ◌^◌, decimal, ◌/◌, ◌%◌, ◌<◌, ◌≤◌, Bool, true, false, eqb, List, [], ◌∷◌, ◌++◌, length, take, drop, Some, None, Ok, Option, sym, refl, ap, ◌∙◌, arith}
 use Rattle.std.specs.List.{AllByRecursion}
 use Rattle.std.proofs.lemmas.List.{take_all, take_at}
+use Rattle.std.proofs.lemmas.Fmt.{decimal_by_steps}
+use Rattle.std.proofs.lemmas.Bool.Decides.{nat_tests}
 use Rattle.std.proofs.lemmas.Bool.{both_ways, or_parts, or_from, ne_eqb}
 use Rattle.tlcp.specs.Bytes.{is_hex, is_escaped, is_escaped_first}
 use Rattle.tlcp.specs.Dividing.{has}
 use Rattle.tlcp.specs.Escapes.{count_or, overlaid, hex_digit, spelled, encoded_by, encode_rest, encode}
+use Rattle.tlcp.proofs.Reading.{refused}
 use Rattle.tlcp.proofs.Unescaped.{is-hex}
 
 -- what `decode` answers where there is no fault, and what it leaves in its buffer
 pub sound-answer : (n : ℕ) (t : List ℕ) (f : Option ℕ) → Ok n ≡ count_or (length t) f → (n ≡ length t) × (f ≡ None)
 sound-answer n t None e = (cc, refl)
-sound-answer n t (Some at) e = absurd (let z : ◌≡◌ {A = ℕ} 0 1 = cc in omega arith)
+sound-answer n t (Some at) e = refused (sym e)
 
 pub take-overlaid : (t xs : List ℕ) (n : ℕ) → n ≡ length t → n ≤ length xs → take n (overlaid t xs) ≡ t
 take-overlaid t xs n is room =
@@ -35,6 +38,14 @@ module _ (c : ℕ) (digit : is_hex c ≡ false) (percent : eqb 37 c ≡ false) w
       or_from (eqb 37 c) _ percent
       (or_from (eqb (hex_digit (b / 16)) c) _ (hex-other c (b / 16) digit (omega arith))
       (or_from (eqb (hex_digit (b % 16)) c) false (hex-other c (b % 16) digit (omega arith)) refl))
+
+  pub has-decimal : (n : ℕ) → n < 2 ^ 64 → has c (decimal n) ≡ false
+  has-decimal =
+      decimal_by_steps (λ n ds. has c ds ≡ false) one
+      (λ n ds many h. has-append c ds _ h (one _ (omega arith)))
+    where
+      one : (n : ℕ) → n < 10 → has c ((48 + n) ∷ []) ≡ false
+      one n small = or_from (eqb (48 + n) c) false (grind (arith, nat_tests, digit)) refl
 
   -- it stands in no text that has it escaped; not so of numbers above 255: the first digit of 1104 would be a pipe
   pub has-by : (p : ℕ → Bool) → ((b : ℕ) → p b ≡ false → eqb b c ≡ false) → (t : List ℕ) → AllByRecursion (λ b. b < 256) t → has c (encoded_by p t) ≡ false

@@ -4,6 +4,7 @@ use Rattle.std.specs.Option.{option_map}
 use Rattle.std.specs.Fmt.{signed_decimal}
 use Rattle.std.specs.Str.{all_ascii_digits}
 use Rattle.std.proofs.lemmas.Fmt.{decimal_digit, decimal-digits_value, digits_value-decimal, digits_decimal, decimal_nonempty, first_decimal}
+use Rattle.std.proofs.lemmas.Option.{none-some}
 use Rattle.std.proofs.lemmas.Str.Parse.{IsNumeralModel, numerals_by_fold, tells_all_ascii_digits, not_in_digits}
 use Rattle.std.proofs.lemmas.Bool.{and_parts, and_from, and_cases, and_right, or_parts, or_from, cases_lt, cases_Bool, leb-true, ltb-false, eqb-true, eqb-false, le-leb, ne_eqb, cond-true, cond-false}
 use Rattle.tlcp.specs.Bytes.{is_digit}
@@ -22,9 +23,6 @@ own = numerals_by_fold _ tells_all_ascii_digits read_on (record { empty = λ n. 
 read_on-ge : (v : ℕ) (s : List ℕ) → v ≤ read_on v s
 read_on-ge v [] = omega arith
 read_on-ge v (b ∷ s) = omega (arith, read_on-ge (v * 10 + (b - 48)) s)
-
-none-some : {X : Type 0} (x : X) → ◌≡◌ {A = Option X} None (Some x) → ⊥
-none-some x e = let z : ◌≡◌ {A = ℕ} 0 1 = cc in omega arith
 
 some-unless : {X : Type 0} (t : Bool) (o : Option X) (x : X) → cond t None o ≡ Some x → (t ≡ false) × (o ≡ Some x)
 some-unless true o x e = absurd (none-some _ e)

@@ -4,7 +4,8 @@ use Rattle.std.specs.List.{position, position_or_len}
 use Rattle.std.proofs.lemmas.List.{take_rest, take_all, length-take-le, length-drop}
 use Rattle.std.proofs.lemmas.List.Recursion.{is_position_or_len}
 use Rattle.std.proofs.lemmas.Bool.{lt-ltb, le-ltb, ltb-true, ltb-false, cond-true, cond-false}
-use Rattle.row.specs.Every.{none-from-cond, some-from-cond}
+use Rattle.std.proofs.lemmas.Option.{cond_some}
+use Rattle.row.specs.Every.{none-from-cond}
 use Rattle.tlcp.specs.Parts.{place_of, before, behind}
 
 pub place-is : (b : ℕ) (s : List ℕ) → place_of b s ≡ position_or_len (λ x. x == b) s
@@ -13,8 +14,8 @@ place-is b s = is_position_or_len (place_of b) (λ x. x == b) refl (λ x xs. let
 -- what the library's search answers
 pub found-at : (b : ℕ) (s : List ℕ) (e : ℕ) → Some e ≡ position (λ x. x == b) s → (e ≡ place_of b s) × (e < length s)
 found-at b s e is =
-    let h = some-from-cond _ e _ is in
-    (h.1 ∙ sym (place-is b s), omega (arith, h.1, ltb-true _ _ h.0))
+    let h = cond_some _ _ e (sym is) in
+    (sym h.1 ∙ sym (place-is b s), omega (arith, h.1, ltb-true _ _ h.0))
 
 pub found-nowhere : (b : ℕ) (s : List ℕ) → None ≡ position (λ x. x == b) s → length s ≤ place_of b s
 found-nowhere b s is = omega (arith, ltb-false _ _ (none-from-cond _ _ is), place-is b s)

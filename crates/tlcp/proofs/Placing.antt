@@ -1,26 +1,13 @@
 -- Bytes in their places: what a writer leaves, step by step.
-use Rattle.std.proofs.Common.{◌≡◌, ℕ, ◌+◌, ◌≤◌, true, List, [], ◌++◌, length, take, drop, Ok, Err, sym, ap, ◌∙◌, append_assoc, add-zero, add_assoc, arith}
-use borrow.Rule.Slice.PartMut.{put_mid}
-use Rattle.std.proofs.lemmas.List.{length-append, length-drop, length-take-le, take_at, take-append-drop, drop_at, drop-drop}
+use Rattle.std.proofs.Common.{◌≡◌, ℕ, ◌+◌, ◌≤◌, true, List, ◌++◌, length, take, drop, Ok, Err, sym, ap, ◌∙◌, append_assoc, add_assoc, arith}
+use Rattle.std.proofs.lemmas.List.{length-append, length-drop, length-take-le, take_at, drop_at, drop-drop}
 use Rattle.std.proofs.lemmas.Bool.{le-leb, cond-true}
 use Rattle.row.specs.declared.fault.Refusal.{Refusal}
+use Rattle.tlcp.proofs.Reading.{refused}
 use Rattle.tlcp.specs.Written.{placed, fits, end_or, placed_or}
-
--- a part of xs, k places from `at` on, now holds t
-pub put-placed : (at k : ℕ) (xs ys t : List ℕ) → ys ≡ t → k ≡ length t → put_mid at k xs ys ≡ placed at t xs
-put-placed at k xs ys t e f =
-    (λ i. take at xs ++ (e i ++ drop (f i) (drop at xs))) ∙ ap (λ d. take at xs ++ (t ++ d)) (drop-drop (length t) at xs)
 
 pub fitting : (at : ℕ) (t xs : List ℕ) → at + length t ≤ length xs → fits at t xs ≡ true
 fitting at t xs h = le-leb (at + length t) (length xs) h
-
-pub no-refusal : (at : ℕ) (t xs : List ℕ) (e : Refusal) → at + length t ≤ length xs → Err e ≡ end_or at t xs → ⊥
-no-refusal at t xs e room answer =
-    let end : Err e ≡ Ok (at + length t) = answer ∙ cond-true _ _ _ (fitting at t xs room) in
-    let z : ◌≡◌ {A = ℕ} 0 1 = cc in omega arith
-
-pub placed-none : (at : ℕ) (xs : List ℕ) → placed at [] xs ≡ xs
-placed-none at xs = ap (λ k. take at xs ++ drop k xs) (add-zero at) ∙ take-append-drop at xs
 
 -- t is placed, and then u behind it
 module _ (at : ℕ) (t u xs : List ℕ) (room : at + length (t ++ u) ≤ length xs) where
@@ -65,4 +52,4 @@ module _ (at : ℕ) (t u xs : List ℕ) (room : at + length (t ++ u) ≤ length 
         )
 
     pub never-refused : (e : Refusal) → Err e ≡ end_or end u ys → ⊥
-    never-refused e answer = no-refusal end u ys e fit answer
+    never-refused e answer = refused (answer ∙ cond-true _ _ _ (fitting end u ys fit))

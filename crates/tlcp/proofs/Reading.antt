@@ -1,8 +1,12 @@
 -- The reader's steps.
-use Rattle.std.proofs.Common.{◌≡◌, ℕ, suc, List, ◌∷◌, length, Ok, Option, Result, sym, ap, ◌∙◌}
+use Rattle.std.proofs.Common.{◌≡◌, ℕ, suc, List, ◌∷◌, length, Ok, Err, Option, Result, sym, ap, ◌∙◌, arith}
 use Rattle.row.specs.declared.fault.Refusal.{Refusal}
 use Rattle.tlcp.specs.Lines.{Argument, Sort, ahead, and_then, arguments_of, divided, read_argument, read_arguments}
 use Rattle.tlcp.specs.Parts.{Piece}
+
+-- what is refused is no result
+pub refused : {X P : Type 0} {r : Refusal} {x : X} → Err r ≡ Ok x → P
+refused e = absurd (let z : ◌≡◌ {A = ℕ} 0 1 = cc in omega arith)
 
 -- the first of some arguments is read, and then the others
 pub first-then : (k : Sort) (ks : List Sort) (end : ℕ) (left : Option Piece) (p : Piece) (ps : List Piece) (a : Argument) (others : Result (List Argument) Refusal) → divided (suc (length ks)) end left ≡ Ok (p ∷ ps) → Ok a ≡ read_argument k p → others ≡ read_arguments ks ps → ahead a others ≡ arguments_of (k ∷ ks) end left

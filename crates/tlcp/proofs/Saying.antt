@@ -12,6 +12,7 @@ use Rattle.tlcp.specs.Parts.{before, behind, place_of, Piece}
 use Rattle.tlcp.specs.Lines.{word, tags, tag_of, Sort, number, code, text, list, sorts, Argument, numbered, coded, worded, listed, Message, piece, front, rest, and_then, ahead, or_fault, sound_or, read_argument, read_arguments, arguments_of, message_of, read_tagged, read_line, Kept, piece_of, has_comma, Laid, none, last, more, Says, ReadsSaid}
 use Rattle.tlcp.specs.declared.tag.Tag.{Tag}
 use Rattle.tlcp.specs.declared.tag.Tag.TheVariants.{U, Probe, Sync, Loop, Cons, Servname, Clientip, Reqok, Unsub, Conerr, End, Error, Eos, Subok, Ov, Conf, Reqerr, Conok}
+use Rattle.tlcp.proofs.Reading.{refused}
 use Rattle.tlcp.proofs.Words.{first_word}
 use Rattle.tlcp.proofs.Numerals.{reads-decimal, reads-signed}
 
@@ -89,17 +90,14 @@ known Conf = (refl, refl, omega arith)
 known Reqerr = (refl, refl, omega arith)
 known Conok = (refl, refl, omega arith)
 
-refused : {X : Type 0} (r : Refusal) (x : X) → ◌≡◌ {A = Result X Refusal} (Err r) (Ok x) → ⊥
-refused r x e = let z : ◌≡◌ {A = ℕ} 0 1 = cc in omega arith
-
 -- a sort reads a part, or refuses it
 some-from : {X : Type 0} (f : Fault) (at : ℕ) (arg : X → Argument) (o : Option X) (a : Argument) → or_fault f at arg o ≡ Ok a → (x : X) × (o ≡ Some x) × (arg x ≡ a)
-some-from f at arg None a e = absurd (refused _ _ e)
+some-from f at arg None a e = refused e
 some-from f at arg (Some x) a e = (x, refl, cc)
 
 sound-from : (p : Piece) (o : Option ℕ) (a : Argument) → sound_or p o ≡ Ok a → (o ≡ None) × (worded p ≡ a)
 sound-from p None a e = (refl, cc)
-sound-from p (Some n) a e = absurd (refused _ _ e)
+sound-from p (Some n) a e = refused e
 
 piece-read : (k : Sort) (p : Piece) (a : Argument) → read_argument k p ≡ Ok a → piece_of a ≡ p
 piece-read (number low high) p a e = let (n, is, same) = some-from _ _ _ _ a e in ap piece_of (sym same)
@@ -138,11 +136,11 @@ module _ (escapes : ReadsEscapes) where
 -- an answer that is no refusal came from answers that are none
 then_ok : {X Y : Type 0} (r : Result X Refusal) (f : X → Result Y Refusal) (y : Y) → and_then r f ≡ Ok y → (x : X) × (r ≡ Ok x) × (f x ≡ Ok y)
 then_ok (Ok x) f y e = (x, refl, e)
-then_ok (Err r) f y e = absurd (refused _ _ e)
+then_ok (Err r) f y e = refused e
 
 ahead-ok : {X : Type 0} (x : X) (r : Result (List X) Refusal) (ys : List X) → ahead x r ≡ Ok ys → (xs : List X) × (r ≡ Ok xs) × (x ∷ xs ≡ ys)
 ahead-ok x (Ok xs) ys e = (xs, refl, cc)
-ahead-ok x (Err r) ys e = absurd (refused _ _ e)
+ahead-ok x (Err r) ys e = refused e
 
 -- the first of several arguments is read by itself, and the others from the rest
 module _ (k j : Sort) (ks : List Sort) (end : ℕ) (p : Piece) where
@@ -166,13 +164,13 @@ module _ (R : List Sort → ℕ → List Argument → List ℕ → Type 0)
     (several : (k j : Sort) (ks : List Sort) (at : ℕ) (a : Argument) (others : List Argument) (x s : List ℕ) → read_argument k (piece x (at + 1)) ≡ Ok a → has_comma x ≡ false → R (j ∷ ks) (at + (length x + 1)) others s → R (k ∷ j ∷ ks) at (a ∷ others) (44 ∷ (x ++ s))) where
   by-reading : (ks : List Sort) (end at : ℕ) (o : Option (List ℕ)) (args : List Argument) → arguments_of ks end (here at o) ≡ Ok args → R ks at args (tail_of o)
   by-reading [] end at None args e = let same : [] ≡ args = cc in subst (λ l. R [] at l []) same (nil at)
-  by-reading [] end at (Some t) args e = absurd (refused _ _ e)
-  by-reading (k ∷ []) end at None args e = absurd (refused _ _ e)
+  by-reading [] end at (Some t) args e = refused e
+  by-reading (k ∷ []) end at None args e = refused e
   by-reading (k ∷ []) end at (Some t) args e =
       let (a, read, behind) = then_ok (read_argument k (piece t (at + 1))) _ args e in
       let same : a ∷ [] ≡ args = cc in
       subst (λ l. R (k ∷ []) at l (44 ∷ t)) same (one k at a t read)
-  by-reading (k ∷ j ∷ ks) end at None args e = absurd (refused _ _ e)
+  by-reading (k ∷ j ∷ ks) end at None args e = refused e
   by-reading (k ∷ j ∷ ks) end at (Some t) args e =
       parted (λ u. arguments_of (k ∷ j ∷ ks) end (Some (piece u (at + 1))) ≡ Ok args → R (k ∷ j ∷ ks) at args (44 ∷ u))
       (λ x o plain f.
@@ -214,16 +212,16 @@ module _ (escapes : ReadsEscapes) where
 -- whole lines
 ok-where : {X : Type 0} (t : Bool) (r : Result X Refusal) (f : Refusal) (x : X) → cond t r (Err f) ≡ Ok x → (t ≡ true) × (r ≡ Ok x)
 ok-where true r f x e = (refl, e)
-ok-where false r f x e = absurd (refused _ _ e)
+ok-where false r f x e = refused e
 
 message-read : (t : Tag) (name : Piece) (r : Result (List Argument) Refusal) (m : Message) → message_of t name r ≡ Ok m → (t ≡ m.tag) × (name ≡ m.name) × (r ≡ Ok m.args)
 message-read t name (Ok args) m e =
     let same : record { tag = t; name = name; args = args } ≡ m = cc in
     (ap (λ n. n.tag) same, ap (λ n. n.name) same, ap (λ n. Ok n.args) same)
-message-read t name (Err r) m e = absurd (refused _ _ e)
+message-read t name (Err r) m e = refused e
 
 tagged-read : (s : List ℕ) (o : Option Tag) (m : Message) → read_tagged s o ≡ Ok m → (o ≡ Some m.tag) × (front (piece s 0) ≡ m.name) × (arguments_of (sorts m.tag) (length s) (rest (piece s 0)) ≡ Ok m.args)
-tagged-read s None m e = absurd (refused _ _ e)
+tagged-read s None m e = refused e
 tagged-read s (Some t) m e =
     let (tag, name, args) = message-read t _ _ m e in
     (ap Some tag, name, ap (λ u. arguments_of (sorts u) (length s) (rest (piece s 0))) (sym tag) ∙ args)

@@ -1,67 +1,17 @@
 -- Value lists: between the pipes of a list stand its values, and the reader takes exactly those that mean changes.
 use Rattle.std.proofs.Common.{◌≡◌, ℕ, ◌+◌, ◌-◌, ◌≤◌, Bool, true, false, ◌&&◌, eqb, leb, List, [], ◌∷◌, ◌++◌, length, replicate, Some, None, Ok, Err, decimal, Option, Result, sym, refl, ap, ◌∙◌, subst, arith, lit<}
 use Rattle.std.proofs.lemmas.List.{length-append, length-replicate, nil_from_length}
-use Rattle.std.proofs.lemmas.Bool.{cond_both, cond-true, cond-false, and_parts, or_parts, or_from, eqb-true, eqb-false, ne_eqb, leb-true, le-leb}
+use Rattle.std.proofs.lemmas.Bool.{cond_both, cond-true, cond-false, and_parts, eqb-true, eqb-false, ne_eqb, leb-true, le-leb}
 use Rattle.row.specs.Limits.{field_limit}
 use Rattle.row.specs.Rows.{Change, same, becomes, null, value}
 use Rattle.row.specs.declared.fault.Refusal.{Refusal}
 use Rattle.tlcp.specs.Escapes.{decoded}
-use Rattle.tlcp.specs.Parts.{push}
-use Rattle.tlcp.specs.Lists.{each_piped, values, has_pipe, NoPipes, piped, Meant, sames, one, is_nil, read_text, text_or, caret_or, read_value, take_meant, ahead, read_values, Means, unchanged, run, nothing, empty, content, Row, done, next, ReadsSpelled}
-use Rattle.tlcp.specs.Numbers.{number_of, ReadsDecimal}
+use Rattle.tlcp.specs.Lists.{values, Meant, sames, one, is_nil, read_text, text_or, caret_or, read_value, take_meant, ahead, read_values, Means, unchanged, run, nothing, empty, content, Row, done, next, ReadsSpelled}
+use Rattle.tlcp.specs.Numbers.{number_of}
+use Rattle.tlcp.proofs.Dividing.{divided-joined, divided-some, divided-apart, joined-divided}
+use Rattle.tlcp.proofs.Numerals.{reads-decimal}
+use Rattle.tlcp.proofs.Reading.{refused}
 use Rattle.tlcp.proofs.Unescaped.{reads-escapes}
-
--- a value without pipes goes before what begins with an empty value
-values-append : (v s : List ℕ) (vs : List (List ℕ)) → has_pipe v ≡ false → values s ≡ [] ∷ vs → values (v ++ s) ≡ v ∷ vs
-values-append [] s vs e f = f
-values-append (b ∷ v) s vs e f =
-    let h = or_parts (eqb b 124) (has_pipe v) e in
-    cond-false (eqb b 124) _ _ h.0 ∙ ap (push b) (values-append v s vs h.1 f)
-
-values-behind : (vs : List (List ℕ)) → NoPipes vs → values (each_piped vs) ≡ [] ∷ vs
-values-behind [] h = refl
-values-behind (v ∷ vs) h = ap (λ ws. [] ∷ ws) (values-append v (each_piped vs) vs h.0 (values-behind vs h.1))
-
-pub values-piped : (vs : List (List ℕ)) → 1 ≤ length vs → NoPipes vs → values (piped vs) ≡ vs
-values-piped [] some h = absurd (omega arith)
-values-piped (v ∷ vs) some h = values-append v (each_piped vs) vs h.0 (values-behind vs h.1)
-
-pub values-some : (s : List ℕ) → 1 ≤ length (values s)
-values-some [] = omega arith
-values-some (b ∷ s) = cond_both (eqb b 124) _ _ (λ vs. 1 ≤ length vs) (λ _. omega arith) (λ _. pushed (values s))
-  where
-    pushed : (vs : List (List ℕ)) → 1 ≤ length (push b vs)
-    pushed [] = omega arith
-    pushed (v ∷ vs) = omega arith
-
-pub values-apart : (s : List ℕ) → NoPipes (values s)
-values-apart [] = (refl, tt)
-values-apart (b ∷ s) = cond_both (eqb b 124) _ _ NoPipes (λ _. (refl, values-apart s)) (λ other. pushed other (values s) (values-apart s))
-  where
-    pushed : eqb b 124 ≡ false → (vs : List (List ℕ)) → NoPipes vs → NoPipes (push b vs)
-    pushed other [] h = (or_from (eqb b 124) false other refl, tt)
-    pushed other (v ∷ vs) h = (or_from (eqb b 124) (has_pipe v) other h.0, h.1)
-
-pub behind-piped : (vs : List (List ℕ)) → 1 ≤ length vs → each_piped vs ≡ 124 ∷ piped vs
-behind-piped [] some = absurd (omega arith)
-behind-piped (v ∷ vs) some = refl
-
-pub piped-values : (s : List ℕ) → piped (values s) ≡ s
-piped-values [] = refl
-piped-values (b ∷ s) =
-    cond_both (eqb b 124) _ _ (λ vs. piped vs ≡ b ∷ s)
-    (λ is.
-    let pipe = sym (eqb-true b 124 is) in
-    behind-piped (values s) (values-some s) ∙ (λ i. pipe i ∷ piped-values s i))
-    (λ _. pushed (values s) ∙ ap (λ t. b ∷ t) (piped-values s))
-  where
-    pushed : (vs : List (List ℕ)) → piped (push b vs) ≡ b ∷ piped vs
-    pushed [] = refl
-    pushed (v ∷ vs) = refl
-
--- what is refused is no result
-refused : {X P : Type 0} {r : Refusal} {x : X} → Err r ≡ Ok x → P
-refused e = absurd (let z : ◌≡◌ {A = ℕ} 0 1 = cc in omega arith)
 
 same-from-ok : {X : Type 0} {x y : X} → ◌≡◌ {A = Result X Refusal} (Ok x) (Ok y) → x ≡ y
 same-from-ok e = cc
@@ -71,7 +21,7 @@ ahead-ok d e (Ok f) is = (f, refl, same-from-ok is)
 ahead-ok d e (Err r) is = refused is
 
 -- the changes that a value means
-abbrev changes_of : Meant → List Change
+abbrev pub changes_of : Meant → List Change
 changes_of (sames n) = replicate n same
 changes_of (one c) = c ∷ []
 
@@ -86,10 +36,10 @@ module _ (allowed : List ℕ → Bool) where
   faithful-text : {v t : List ℕ} → (allowed t ≡ true → Means allowed v (becomes (value t) ∷ [])) → Faithful v (read_text allowed t)
   faithful-text {v} {t} h = cond_both (allowed t) _ _ (Faithful v) (λ e. faithful-ok (h e)) (λ _ _ e. refused e)
 
-  faithful-caret : ReadsDecimal → (v : List ℕ) (o : Option ℕ) → number_of 1 field_limit v ≡ o → Faithful (94 ∷ v) (caret_or o)
-  faithful-caret reads v None is = λ _ e. refused e
-  faithful-caret reads v (Some n) is =
-      let h = (reads 1 field_limit n v (lit< tt)).0 is in
+  faithful-caret : (v : List ℕ) (o : Option ℕ) → number_of 1 field_limit v ≡ o → Faithful (94 ∷ v) (caret_or o)
+  faithful-caret v None is = λ _ e. refused e
+  faithful-caret v (Some n) is =
+      let h = (reads-decimal 1 field_limit n v (lit< tt)).0 is in
       faithful-ok (rw h.0 (run h.1 h.2))
 
   faithful-content : {b : ℕ} {v : List ℕ} → eqb b 94 ≡ false → (eqb b 35 && is_nil v) ≡ false → (eqb b 36 && is_nil v) ≡ false → (o : Option ℕ) → (decoded (b ∷ v)).fault ≡ o → Faithful (b ∷ v) (text_or allowed (decoded (b ∷ v)).bytes o)
@@ -104,11 +54,11 @@ module _ (allowed : List ℕ → Bool) where
       let two = and_parts (eqb b x) (is_nil v) is in
       rw (eqb-true b x two.0, nil_from_length v (eqb-true (length v) 0 two.1)) h
 
-  faithful : ReadsDecimal → (v : List ℕ) → Faithful v (read_value allowed v)
-  faithful reads [] = faithful-ok unchanged
-  faithful reads (b ∷ v) =
+  faithful : (v : List ℕ) → Faithful v (read_value allowed v)
+  faithful [] = faithful-ok unchanged
+  faithful (b ∷ v) =
       cond_both (eqb b 94) _ _ (Faithful (b ∷ v))
-      (λ is. rw (eqb-true b 94 is) (faithful-caret reads v (number_of 1 field_limit v) refl))
+      (λ is. rw (eqb-true b 94 is) (faithful-caret v (number_of 1 field_limit v) refl))
       (λ caret.
       cond_both (eqb b 35 && is_nil v) _ _ (Faithful (b ∷ v))
       (λ is. faithful-ok (alone is nothing))
@@ -118,12 +68,12 @@ module _ (allowed : List ℕ → Bool) where
       (λ dollar. faithful-content caret hash dollar (decoded (b ∷ v)).fault refl)))
 
   -- a value that means d is read as something that says d
-  read : ReadsDecimal → {v : List ℕ} {d : List Change} → Means allowed v d → (m : Meant) × (read_value allowed v ≡ Ok m) × (changes_of m ≡ d)
-  read reads unchanged = (sames 1, refl, refl)
-  read reads (run {n = n} low high) = (sames n, ap caret_or ((reads 1 field_limit n (decimal n) (lit< tt)).1 refl low high), refl)
-  read reads nothing = (one (becomes null), refl, refl)
-  read reads (empty e) = (one (becomes (value [])), cond-true (allowed []) _ _ e, refl)
-  read reads (content {b = b} {v = v} {t = t} caret hash dollar h e) = (
+  read : {v : List ℕ} {d : List Change} → Means allowed v d → (m : Meant) × (read_value allowed v ≡ Ok m) × (changes_of m ≡ d)
+  read unchanged = (sames 1, refl, refl)
+  read (run {n = n} low high) = (sames n, ap caret_or ((reads-decimal 1 field_limit n (decimal n) (lit< tt)).1 refl low high), refl)
+  read nothing = (one (becomes null), refl, refl)
+  read (empty e) = (one (becomes (value [])), cond-true (allowed []) _ _ e, refl)
+  read (content {b = b} {v = v} {t = t} caret hash dollar h e) = (
     one (becomes (value t)),
     cond-false (eqb b 94) _ _ caret
         ∙ cond-false (eqb b 35 && is_nil v) _ _ hash
@@ -155,16 +105,16 @@ module _ (allowed : List ℕ → Bool) where
       let left_one : 1 ≤ left = omega (arith, eqb-false left 0 some) in
       covers-next (rest (left - 1)) (h (one c) refl) refl left_one (more (left - 1))
 
-  covers : ReadsDecimal → (vs : List (List ℕ)) (at left : ℕ) (d : List Change) → read_values allowed at left vs ≡ Ok d → Covers vs left d
-  covers reads [] at left d =
+  covers : (vs : List (List ℕ)) (at left : ℕ) (d : List Change) → read_values allowed at left vs ≡ Ok d → Covers vs left d
+  covers [] at left d =
       cond_both (eqb left 0) _ _ (λ r. r ≡ Ok d → Covers [] left d)
       (λ is e. subst (Covers [] left) (same-from-ok e) (done, sym (eqb-true left 0 is)))
       (λ _ e. refused e)
-  covers reads (v ∷ vs) at left d =
+  covers (v ∷ vs) at left d =
       let rest = λ (n : ℕ). read_values allowed (at + length v + 1) n vs in
       cond_both (eqb left 0) _ _ (λ r. r ≡ Ok d → Covers (v ∷ vs) left d)
       (λ _ e. refused e)
-      (λ some. covers-taken left at rest (read_value allowed v) some (faithful reads v) (covers reads vs (at + length v + 1)))
+      (λ some. covers-taken left at rest (read_value allowed v) some (faithful v) (covers vs (at + length v + 1)))
 
   -- the changes of m and then e are as many as were to be covered
   takes : (m : Meant) (e : List Change) (at left : ℕ) (rest : ℕ → Result (List Change) Refusal) → left ≡ length (changes_of m ++ e) → rest (length e) ≡ Ok e → take_meant left at rest (Ok m) ≡ Ok (changes_of m ++ e)
@@ -184,26 +134,26 @@ module _ (allowed : List ℕ → Bool) where
   means-some (empty e) = omega arith
   means-some (content caret hash dollar h e) = omega arith
 
-  reads-row : ReadsDecimal → {vs : List (List ℕ)} {d : List Change} → Row allowed vs d → (at : ℕ) → read_values allowed at (length d) vs ≡ Ok d
-  reads-row reads done at = refl
-  reads-row reads (next {v = v} {vs = vs} {d = d} {e = e} h r) at =
+  reads-row : {vs : List (List ℕ)} {d : List Change} → Row allowed vs d → (at : ℕ) → read_values allowed at (length d) vs ≡ Ok d
+  reads-row done at = refl
+  reads-row (next {v = v} {vs = vs} {d = d} {e = e} h r) at =
       let rest = λ (n : ℕ). read_values allowed (at + length v + 1) n vs in
-      let m = read reads h in
+      let m = read h in
       let some : eqb (length (d ++ e)) 0 ≡ false = ne_eqb (length (d ++ e)) 0 (λ z. omega (arith, means-some h, length-append d e)) in
       cond-false (eqb (length (d ++ e)) 0) _ _ some
       ∙ ap (take_meant (length (d ++ e)) at rest) m.1
-      ∙ takes m.0 e at (length (d ++ e)) rest (ap (λ c. length (c ++ e)) (sym m.2)) (reads-row reads r (at + length v + 1))
+      ∙ takes m.0 e at (length (d ++ e)) rest (ap (λ c. length (c ++ e)) (sym m.2)) (reads-row r (at + length v + 1))
       ∙ ap (λ c. Ok (c ++ e)) m.2
 
-pub reads-spelled : ReadsDecimal → ReadsSpelled
-reads-spelled reads allowed fields s d few =
+pub reads-spelled : ReadsSpelled
+reads-spelled allowed fields s d few =
     let small = le-leb fields field_limit few in (
       λ is.
-          let h = covers allowed reads (values s) 0 fields d (sym (cond-true (leb fields field_limit) _ _ small) ∙ is) in
-          (record { parts = values s; some = values-some s; apart = values-apart s; whole = sym (piped-values s); means = h.0 }, h.1),
+          let h = covers allowed (values s) 0 fields d (sym (cond-true (leb fields field_limit) _ _ small) ∙ is) in
+          (record { parts = values s; some = divided-some 124 s; apart = divided-apart 124 s; whole = sym (joined-divided 124 s); means = h.0 }, h.1),
       λ h long.
-          let parts : values s ≡ h.parts = ap values h.whole ∙ values-piped h.parts h.some h.apart in
+          let parts : values s ≡ h.parts = ap values h.whole ∙ divided-joined 124 h.parts h.some h.apart in
           cond-true (leb fields field_limit) _ _ small
           ∙ (λ i. read_values allowed 0 (sym long i) (parts i))
-          ∙ reads-row allowed reads h.means 0,
+          ∙ reads-row allowed h.means 0,
     )

@@ -1,8 +1,9 @@
 -- Escapes: what decoding makes of them, and that a text as content is that text with some bytes escaped.
-use Rattle.std.proofs.Common.{◌≡◌, ℕ, ◌+◌, ◌*◌, ◌/◌, ◌%◌, ◌<◌, ◌≤◌, Bool, true, false, cond, ◌&&◌, eqb, List, [], ◌∷◌, ◌++◌, length, None, refl, ap, ◌∙◌, subst, arith}
+use Rattle.std.proofs.Common.{◌≡◌, ℕ, ◌+◌, ◌*◌, ◌/◌, ◌%◌, ◌<◌, ◌≤◌, Bool, true, false, cond, ◌&&◌, eqb, List, [], ◌∷◌, ◌++◌, length, None, sym, refl, ap, ◌∙◌, subst, arith}
 use Rattle.std.specs.List.{AllByRecursion}
 use Rattle.std.proofs.lemmas.List.{length-append}
 use Rattle.std.proofs.lemmas.Bool.{cond_both, cond-true, cond-false, and_parts, and_from, or_parts, eqb-true}
+use Rattle.std.proofs.lemmas.Option.{none-some}
 use Rattle.std.proofs.lemmas.Bool.Decides.{nat_tests}
 use Rattle.tlcp.specs.Bytes.{is_hex, is_escaped, is_escaped_first}
 use Rattle.tlcp.specs.Escapes.{Decoded, decode_at, stopped, onto, Decodes, nothing, plain, escape, ReadsEscapes, hex_value, hex_digit, spelled, encode_rest, encoded_by, encode}
@@ -16,7 +17,7 @@ abbrev Sound : List ℕ → Decoded → Type 0
 Sound s d = d.fault ≡ None → Decodes s d.bytes
 
 stops : (s : List ℕ) (at : ℕ) → Sound s (stopped at)
-stops s at e = absurd (let z : ◌≡◌ {A = ℕ} 0 1 = cc in omega arith)
+stops s at e = absurd (none-some at (sym e))
 
 -- `%` and two more bytes
 sound-percent : (b h l at : ℕ) (s : List ℕ) → eqb b 37 ≡ true → Sound s (decode_at (at + 3) s) → Sound (b ∷ h ∷ l ∷ s) (cond (is_hex h && is_hex l) (onto ((16 * hex_value h + hex_value l) ∷ []) (decode_at (at + 3) s)) (stopped at))

@@ -1,16 +1,20 @@
 -- Which word a text is.
-use Rattle.std.proofs.Common.{◌≡◌, ℕ, true, eqb, List, [], ◌∷◌, Some, sym, refl, ap, ◌∙◌, ⊎_elim}
-use Rattle.std.proofs.lemmas.Bool.{and_parts, cases_Bool, cond-true, cond-false, eqb-true}
+use Rattle.std.proofs.Common.{◌≡◌, ℕ, ◌&&◌, ◌==◌, true, List, [], ◌∷◌, Some, sym, refl, ap, ◌∙◌, ⊎_elim}
+use Rattle.std.proofs.lemmas.Bool.{cases_Bool, cond-true, cond-false}
+use Rattle.std.specs.Str.{bytes_eq}
+use Rattle.std.proofs.lemmas.Slice.Eq.{bytes_eq-Decides}
 use Rattle.tlcp.specs.Lines.{same_bytes}
 use Rattle.tlcp.specs.Dividing.{first_with}
 
+-- the library's test of two texts
+pub eq-same_bytes : (x y : List ℕ) → bytes_eq x y ≡ same_bytes x y
+eq-same_bytes [] [] = refl
+eq-same_bytes [] (y ∷ ys) = refl
+eq-same_bytes (x ∷ xs) [] = refl
+eq-same_bytes (x ∷ xs) (y ∷ ys) = ap (λ b. x == y && b) (eq-same_bytes xs ys)
+
 pub same_bytes_lem : (x y : List ℕ) → same_bytes x y ≡ true → x ≡ y
-same_bytes_lem [] [] e = refl
-same_bytes_lem [] (b ∷ y) e = cc
-same_bytes_lem (a ∷ x) [] e = cc
-same_bytes_lem (a ∷ x) (b ∷ y) e =
-    let h = and_parts (eqb a b) (same_bytes x y) e in
-    λ i. eqb-true a b h.0 i ∷ same_bytes_lem x y h.1 i
+same_bytes_lem x y e = (bytes_eq-Decides x y).0 (eq-same_bytes x y ∙ e)
 
 -- the thing that was found has that word
 pub first_word : {X : Type 0} (word : X → List ℕ) (xs : List X) (s : List ℕ) (x : X) → first_with word xs s ≡ Some x → s ≡ word x

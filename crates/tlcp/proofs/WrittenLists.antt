@@ -1,32 +1,23 @@
 -- Deltas written as value lists: what is written means the delta, and is short.
-use Rattle.std.proofs.Common.{◌≡◌, ℕ, zero, suc, ◌+◌, ◌*◌, ◌^◌, ◌<◌, ◌≤◌, Bool, true, false, eqb, leb, List, [], ◌∷◌, ◌++◌, length, replicate, decimal, sym, refl, ap, subst, append_assoc, append-nil, arith}
+use Rattle.std.proofs.Common.{◌≡◌, ℕ, zero, suc, ◌+◌, ◌*◌, ◌<◌, ◌≤◌, Bool, true, false, leb, List, [], ◌∷◌, ◌++◌, length, replicate, decimal, sym, refl, ap, subst, append_assoc, append-nil, arith}
 use Rattle.std.specs.List.{AllByRecursion}
-use Rattle.std.proofs.lemmas.Fmt.{decimal_by_steps, length-decimal-le_succ}
-use Rattle.std.proofs.lemmas.List.{length-append, length-drop}
-use Rattle.std.proofs.lemmas.Bool.{cond_both, and_left, or_from, leb-false}
-use Rattle.std.proofs.lemmas.Bool.Decides.{nat_tests}
+use Rattle.std.proofs.lemmas.Fmt.{length-decimal-le_succ}
+use Rattle.std.proofs.lemmas.List.{length-append, length-drop, length-replicate}
+use Rattle.std.proofs.lemmas.Bool.{cond_both, and_left, leb-false}
+use Rattle.std.proofs.lemmas.Grind.{flat_map-append}
 use Rattle.row.specs.Limits.{field_limit, text_limit}
 use Rattle.row.specs.Rows.{Change, same, becomes, null, value}
 use Rattle.tlcp.specs.Escapes.{Decodes}
 use Rattle.tlcp.specs.Lists.{each_piped, has_pipe, NoPipes, Means, unchanged, run, nothing, empty, content, Row, done, next, run_values, text_value, written_values, written_list, Allowed, ReadsWritten, WrittenShort}
-use Rattle.tlcp.specs.Numbers.{ReadsDecimal}
 use Rattle.tlcp.specs.Written.{field_room}
 use Rattle.tlcp.proofs.Spelling.{reads-spelled}
-use Rattle.tlcp.proofs.Encoded.{has-append, has-encode}
+use Rattle.tlcp.proofs.Encoded.{has-decimal, has-encode}
 use Rattle.tlcp.proofs.Unescaped.{plain-pipe, decodes-encode, encode-content, length-encode}
 
 -- one more of a run stands before or behind it
 replicate-through : {X : Type 0} (n : ℕ) (x : X) (xs : List X) → replicate n x ++ (x ∷ xs) ≡ x ∷ (replicate n x ++ xs)
 replicate-through zero x xs = refl
 replicate-through (suc n) x xs = ap (λ l. x ∷ l) (replicate-through n x xs)
-
-pub no-pipe-decimal : (n : ℕ) → n < 2 ^ 64 → has_pipe (decimal n) ≡ false
-no-pipe-decimal =
-    decimal_by_steps (λ n ds. has_pipe ds ≡ false) digit
-    (λ n ds many h. has-append 124 ds _ h (digit _ (omega arith)))
-  where
-    digit : (n : ℕ) → n < 10 → has_pipe ((48 + n) ∷ []) ≡ false
-    digit n small = or_from (eqb (48 + n) 124) false (grind (arith, nat_tests)) refl
 
 text-apart : (t : List ℕ) → AllByRecursion (λ b. b < 256) t → has_pipe (text_value t) ≡ false
 text-apart [] bytes = refl
@@ -61,7 +52,7 @@ module _ (allowed : List ℕ → Bool) where
       (λ e.
       let many = leb-false n 3 e in
       subst (Clear ((94 ∷ decimal n) ∷ [])) (append-nil (replicate n same))
-      (clear_next (run (omega arith) few) (no-pipe-decimal n (omega arith)) clear_none))
+      (clear_next (run (omega arith) few) (has-decimal 124 refl refl n (omega arith)) clear_none))
     where
       empties : (k : ℕ) → Clear (replicate k []) (replicate k same)
       empties zero = clear_none
@@ -84,29 +75,29 @@ module _ (allowed : List ℕ → Bool) where
       let ok = bytes t all.0 in
       clear-append (clear-run n (omega arith)) (clear_next (text-means t all.0 ok) (text-apart t ok) (clear-written bytes d 0 (omega arith) all.1))
 
-  row-some : {vs : List (List ℕ)} {d : List Change} → Row allowed vs d → 1 ≤ length d → 1 ≤ length vs
-  row-some done some = some
-  row-some (next h r) some = omega arith
+-- a list of some changes has some values
+pub written-some : (d : List Change) (n : ℕ) → 1 ≤ n + length d → 1 ≤ length (written_values n d)
+written-some [] n some = cond_both (leb n 3) _ _ (λ vs. 1 ≤ length vs) (λ _. rw length-replicate (omega arith)) (λ _. omega arith)
+written-some (same ∷ d) n some = written-some d (suc n) (omega arith)
+written-some (becomes null ∷ d) n some = simp length-append (omega arith)
+written-some (becomes (value t) ∷ d) n some = simp length-append (omega arith)
 
-pub reads-written : ReadsDecimal → ReadsWritten
-reads-written reads allowed bytes d some few all =
+pub reads-written : ReadsWritten
+reads-written allowed bytes d some few all =
     let h = clear-written allowed bytes d 0 (omega arith) all in
-    (reads-spelled reads allowed (length d) (written_list d) d few).1
-    (record { parts = written_values 0 d; some = row-some allowed h.means some; apart = h.apart; whole = refl; means = h.means }) refl
+    (reads-spelled allowed (length d) (written_list d) d few).1
+    (record { parts = written_values 0 d; some = written-some d 0 (omega arith); apart = h.apart; whole = refl; means = h.means }) refl
 
-length-behind : (vs ws : List (List ℕ)) → length (each_piped (vs ++ ws)) ≡ length (each_piped vs) + length (each_piped ws)
-length-behind [] ws = omega arith
-length-behind (v ∷ vs) ws = simp length-append (omega (arith, length-behind vs ws))
+-- empty values with a pipe before each
+pub pipes : (k : ℕ) → each_piped (replicate k []) ≡ replicate k 124
+pipes zero = refl
+pipes (suc k) = ap (λ l. 124 ∷ l) (pipes k)
 
 pub short-run : (n : ℕ) → n ≤ field_limit → length (each_piped (run_values n)) ≤ field_room * n
 short-run n few =
     cond_both (leb n 3) _ _ (λ vs. length (each_piped vs) ≤ field_room * n)
-    (λ _. omega (arith, empties n))
+    (λ _. omega (arith, ap length (pipes n), length-replicate {A = ℕ} n 124))
     (λ e. simp length-append (omega (arith, leb-false n 3 e, length-decimal-le_succ n (omega arith))))
-  where
-    empties : (k : ℕ) → length (each_piped (replicate k [])) ≡ k
-    empties zero = refl
-    empties (suc k) = ap suc (empties k)
 
 pub length-text : (t : List ℕ) → length t ≤ text_limit → length (text_value t) ≤ 3 * text_limit
 length-text [] h = omega arith
@@ -116,9 +107,9 @@ short : (allowed : List ℕ → Bool) → ((t : List ℕ) → allowed t ≡ true
 short allowed small [] n few all = omega (arith, short-run n (omega arith))
 short allowed small (same ∷ d) n few all = omega (arith, short allowed small d (suc n) (omega arith) all.1)
 short allowed small (becomes null ∷ d) n few all =
-    rw length-behind (omega (arith, short-run n (omega arith), short allowed small d 0 (omega arith) all.1))
+    simp (flat_map-append, length-append) (omega (arith, short-run n (omega arith), short allowed small d 0 (omega arith) all.1))
 short allowed small (becomes (value t) ∷ d) n few all =
-    simp (length-behind, length-append) (omega (arith, short-run n (omega arith), length-text t (small t all.0), short allowed small d 0 (omega arith) all.1))
+    simp (flat_map-append, length-append) (omega (arith, short-run n (omega arith), length-text t (small t all.0), short allowed small d 0 (omega arith) all.1))
 
 pub written-short : WrittenShort
 written-short allowed small d some few all = simp length-drop (omega (arith, short allowed small d 0 (omega arith) all))

@@ -1,15 +1,11 @@
-use Rattle.std.proofs.Common.{◌+◌, length, get_or, take, Ok, sym, ap, ◌∙◌, arith}
-use Rattle.std.proofs.lemmas.List.{take_all}
-use Rattle.std.proofs.lemmas.Bool.{leb-true, cond-true}
+use Rattle.std.proofs.Common.{◌+◌, length, get_or, take, sym, ap, ◌∙◌}
+use Rattle.std.proofs.lemmas.Bool.{leb-true}
 use Rattle.tlcp.specs.Bytes.{in_class}
 use Rattle.tlcp.specs.Escapes.{encoded_by, spelled}
 use Rattle.tlcp.specs.Written.{placed}
 use Rattle.tlcp.proofs.Encoding.{by-more, room-more}
-use Rattle.tlcp.proofs.Placing.{placed-none, then-placed, never-refused, fitting}
+use Rattle.tlcp.proofs.Placing.{then-placed, never-refused}
 use Rattle.tlcp.proofs.encode.put_escaped.Goals as goal
-
-pub loop-b-init : goal.loop-b-init
-loop-b-init c = (omega arith, sym (placed-none c.args.at c.args.out.now))
 
 pub returns-in_err-end : goal.returns-in_err-end
 returns-in_err-end c =
@@ -34,16 +30,3 @@ loop-b-preserved c =
     let step = then-placed c.args.at (encoded_by p (take i text)) (spelled (p (get_or text i 0)) (get_or text i 0)) xs room c.loop-b.end c.loop-b.out c.loop-b.invariant.0 c.loop-b.invariant.1 _ _ h.answer h.bytes in
     let more = sym (by-more p text i c.loop-b-test.true) in
     (step.0 ∙ ap (λ t. c.args.at + length t) more, step.1 ∙ ap (λ t. placed c.args.at t xs) more)
-
-pub returns : goal.returns
-returns c =
-    let p = in_class c.args.class in
-    let text = c.args.text.now in
-    let xs = c.args.out.now in
-    let all = leb-true _ _ (sym c.if-not-is_within.ensures) in
-    let whole = ap (encoded_by p) (take_all c.loop-b.b-index text c.loop-b-test.false) in
-    let fit = fitting c.args.at (encoded_by p text) xs (omega (arith, all)) in
-    record {
-      answer = ap Ok (c.loop-b.invariant.0 ∙ ap (λ t. c.args.at + length t) whole) ∙ sym (cond-true _ _ _ fit);
-      bytes = c.loop-b.invariant.1 ∙ ap (λ t. placed c.args.at t xs) whole ∙ sym (cond-true _ _ _ fit);
-    }

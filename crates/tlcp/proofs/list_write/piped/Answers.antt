@@ -1,17 +1,12 @@
-use Rattle.std.proofs.Common.{ap, length, sym, arith}
+use Rattle.std.proofs.Common.{rules, sym, arith}
 use Rattle.std.proofs.lemmas.List.{length-append}
-use Rattle.tlcp.specs.Bounds.{text_of}
-use Rattle.tlcp.specs.Lists.{each_piped, run_values}
 use Rattle.tlcp.proofs.Deltas.{before-is, before_same, before-other}
 use Rattle.tlcp.proofs.WrittenLists.{short-run}
 use Rattle.tlcp.proofs.list_write.piped.Goals as goal
 use Rattle.tlcp.proofs.list_write.piped.Goals.{then-is_same, else-is_same+in_ok-put_run+in_ok-put_change}
 
 pub put_change-requires : goal.put_change-requires
-put_change-requires g c =
-    let run = c.loop-change.run in
-    let short = c.loop-change.invariant.short in
-    omega (arith, ap length c.put_run.ensures.text, length-append (text_of c.loop-change.list) (each_piped (run_values run)), short-run run (omega (arith, short)), short)
+put_change-requires g c = search (rules, short-run, length-append)
 
 pub loop-change-preserved : goal.loop-change-preserved
 loop-change-preserved g c =

@@ -1,17 +1,10 @@
-use Rattle.std.proofs.Common.{ℕ, List, ◌∷◌, [], ap, length, take, decimal, arith}
+use Rattle.std.proofs.Common.{ℕ, List, ◌∷◌, [], ap, length, decimal, arith}
 use Rattle.std.proofs.lemmas.Fmt.{length-decimal-le_succ}
-use Rattle.std.proofs.lemmas.List.{length-append, length-take-le}
+use Rattle.std.proofs.lemmas.List.{length-append}
 use Rattle.tlcp.specs.Bounds.{text_of}
 use Rattle.tlcp.specs.Written.{piped_limit}
-use Rattle.tlcp.proofs.Appending.{adds-is, adds-then, adding, run_short, run_long}
+use Rattle.tlcp.proofs.Appending.{adds-is, adds-then, adding, run_long}
 use Rattle.tlcp.proofs.list_write.put_run.Goals as goal
-
-pub returns-then-run-le3 : goal.returns-then-run-le3
-returns-then-run-le3 c =
-    let few = c.if-run-le3.true in
-    let pipes : List ℕ = 124 ∷ 124 ∷ 124 ∷ [] in
-    adds-is (run_short c.args.run few)
-    (adding piped_limit (text_of c.args.list.now) (take c.args.run pipes) _ _ (omega (arith, length-take-le c.args.run pipes few, c.requires.room)) c.put.ensures.answer c.put.ensures.text)
 
 pub returns : goal.returns
 returns c =

@@ -8,6 +8,6 @@ returns c = record {
   escapes = reads-escapes;
   decimal = reads-decimal;
   signed = reads-signed;
-  written = reads-written reads-decimal;
+  written = reads-written;
   short = written-short;
 }
