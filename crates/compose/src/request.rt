@@ -51,9 +51,8 @@ impl Drop for RequestWriter<'_> {
     }
 }
 
+// kept: `lent` in three contracts: that the bytes are still the same ones is a fact of a step, which no invariant says
 impl<'a> RequestWriter<'a> {
-    // kept: `lent` of three functions: that the bytes are still the same ones is a fact of the step, which no invariant says
-
     // A writer over lent bytes, which leaves them alone until its request begins.
     pub fn new(out: &'a mut [u8], name: Name) -> RequestWriter<'a>
         ensures draft { draft_of result ≡ unbegun name out.old }

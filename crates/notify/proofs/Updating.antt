@@ -12,7 +12,7 @@ use Rattle.row.specs.declared.change.Change.{Change}
 use Rattle.row.specs.declared.change.Mark.{Mark}
 use Rattle.row.specs.declared.fault.Refusal.{Refusal}
 use Rattle.tlcp.specs.Written.{end_or, no_room, placed_or}
-use Rattle.tlcp.specs.Written.{changes_of}
+use Rattle.tlcp.specs.Written.{changes_of, covers}
 use Rattle.tlcp.proofs.Deltas as lists
 use Rattle.tlcp.specs.Limits.{id_limit}
 use Rattle.tlcp.specs.Limits.{line_limit}
@@ -27,11 +27,11 @@ use Rattle.notify.proofs.Backing.{read_back, unbroken}
 use Rattle.notify.proofs.Composing.{composed-is, word-short}
 
 -- what the tests of a writer show
-pub update-from : {R : Type 0} (k : Kind R) (id : ℕ) (delta : List (Change R)) (fields : ℕ) → length delta ≡ field_limit → true ≡ is_within lines.id (number id) → (fields ≡ 0 → ⊥) → fields ≤ field_limit → Update k id delta fields
-update-from k id delta fields whole is some few = record {
+pub update-from : {R : Type 0} (k : Kind R) (id : ℕ) (delta : List (Change R)) (fields : ℕ) → length delta ≡ field_limit → true ≡ is_within lines.id (number id) → covers fields ≡ true → Update k id delta fields
+update-from k id delta fields whole is covered = record {
   whole = whole;
   id-within = search rules;
-  fields_within = grind (arith, nat_tests);
+  fields_within = covered;
 }
 
 module _ {R : Type 0} (k : Kind R) (law : Lawful k) where

@@ -14,7 +14,7 @@ ghost use Rattle.notify.specs.Written.{line_answer, line_placed, update_answer, 
 use crate::draft::Draft;
 use crate::message::Message;
 use row::{Change, FIELD_LIMIT, Fault, Refusal, Value};
-use tlcp::{Limits, Tag, UNCOVERED};
+use tlcp::{Limits, Tag, UNCOVERED, covers};
 
 // The line of a message, composed.
 fn compose(message: Message<'_>) -> Result<Draft, Refusal>
@@ -103,7 +103,7 @@ pub fn write_update<R: Value>(
     if !Limits::ID.hold(id) {
         return Err(Fault::Number.at(0));
     }
-    if fields == 0 || fields > FIELD_LIMIT {
+    if !covers(fields) {
         return Err(UNCOVERED);
     }
     compose_update(id, delta, fields)?.put(out, at)

@@ -1,4 +1,4 @@
-use Rattle.std.proofs.Common.{arith}
+use Rattle.std.proofs.Common.{sym, ◌∙◌}
 use Rattle.notify.proofs.Updating.{update-from, update-short, update-back, update-unbroken, update-unrefused, update-answer, update-placed}
 use Rattle.notify.proofs.write.write_update.Goals as goal
 
@@ -6,7 +6,7 @@ pub returns-in_err-compose_update : goal.returns-in_err-compose_update
 returns-in_err-compose_update g c =
     let k = g.R.Value.kind in
     let delta = c.args.delta.now in
-    let h = update-from k c.args.id delta c.args.fields c.if-delta-ne-FIELD_LIMIT.false c.if-not-hold.ensures c.if-fields-eq0.false (omega arith) in
+    let h = update-from k c.args.id delta c.args.fields c.if-delta-ne-FIELD_LIMIT.false c.if-not-hold.ensures (sym c.covers.ensures ∙ c.if-not-covers.false) in
     absurd (update-unrefused k g.met.R.Value.lawful c.args.id delta c.args.fields h _ c.in_err-compose_update.ensures)
 
 pub returns : goal.returns
@@ -16,7 +16,7 @@ returns g c =
     let id = c.args.id in
     let delta = c.args.delta.now in
     let fields = c.args.fields in
-    let h = update-from k id delta fields c.if-delta-ne-FIELD_LIMIT.false c.if-not-hold.ensures c.if-fields-eq0.false (omega arith) in
+    let h = update-from k id delta fields c.if-delta-ne-FIELD_LIMIT.false c.if-not-hold.ensures (sym c.covers.ensures ∙ c.if-not-covers.false) in
     let line = c.in_ok-compose_update.ensures in
     record {
       answer = update-answer k law id delta fields h _ line c.args.at c.args.out.now c.put.ensures.answer;
