@@ -2,7 +2,6 @@
 use Rattle.std.proofs.Common.{◌≡◌, ℕ, zero, suc, ◌+◌, ◌^◌, ◌<◌, ◌≤◌, Bool, true, false, not, eqb, leb, List, [], ◌∷◌, length, drop, replicate, ℤ, nat_abs, decimal, refl, arith, rules}
 use Rattle.std.specs.Fmt.{signed_decimal}
 use Rattle.std.specs.List.{AllByRecursion}
-use Rattle.std.proofs.lemmas.Fmt.{decimal_by_steps}
 use Rattle.std.proofs.ByRecursion.{All-append}
 use Rattle.std.proofs.lemmas.Bool.{and_parts, or_parts, or_from, not-true, cond_both}
 use Rattle.std.proofs.lemmas.Bool.Decides.{nat_tests}
@@ -12,7 +11,7 @@ use Rattle.row.specs.Texts.{every}
 use Rattle.tlcp.specs.Bytes.{is_hex, is_escaped}
 use Rattle.tlcp.specs.Escapes.{encoded_by}
 use Rattle.tlcp.specs.Dividing.{has}
-use Rattle.tlcp.proofs.Encoded.{has-append, has-by, has-encode}
+use Rattle.tlcp.proofs.Encoded.{has-append, has-by, has-decimal, has-encode}
 use Rattle.tlcp.specs.Lists.{each_piped, run_values, text_value, written_values, written_list}
 use Rattle.notify.specs.Back.{Bytes, BytesIn}
 
@@ -37,16 +36,8 @@ module _ (c : ℕ) (apart : Apart c) where
   has-plain [] e = refl
   has-plain (b ∷ s) e = let h = and_parts (plain b) (every plain s) e in has_one b s (not-true (is_escaped b) h.0) (has-plain s h.1)
 
-  pub has-decimal : (n : ℕ) → n < 2 ^ 64 → has c (decimal n) ≡ false
-  has-decimal =
-      decimal_by_steps (λ n ds. has c ds ≡ false) digit
-      (λ n ds many h. has-append c ds _ h (digit _ (omega arith)))
-    where
-      digit : (n : ℕ) → n < 10 → has c ((48 + n) ∷ []) ≡ false
-      digit n small = has_one (48 + n) [] (grind (arith, nat_tests)) refl
-
   pub has-signed : (z : ℤ) → nat_abs z < 2 ^ 64 → has c (signed_decimal z) ≡ false
-  has-signed z small = search (rules, has-decimal, has_one)
+  has-signed z small = search (rules, has-decimal c apart.digit apart.percent, has_one)
 
   pub has-text : (t : List ℕ) → Bytes t → has c (encoded_by is_escaped t) ≡ false
   has-text t bytes = has-by c apart.digit apart.percent is_escaped other t bytes
@@ -58,7 +49,7 @@ module _ (c : ℕ) (apart : Apart c) where
   free-run : (n : ℕ) → n ≤ field_limit → Free (run_values n)
   free-run n few =
       cond_both (leb n 3) _ _ Free (λ _. empties n)
-      (λ _. (has_one 94 (decimal n) refl (has-decimal n (omega arith)), tt))
+      (λ _. (has_one 94 (decimal n) refl (has-decimal c apart.digit apart.percent n (omega arith)), tt))
     where
       empties : (k : ℕ) → Free (replicate k [])
       empties zero = tt

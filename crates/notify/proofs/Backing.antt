@@ -8,7 +8,7 @@ use Rattle.row.specs.Texts.{every}
 use Rattle.tlcp.specs.Bytes.{is_escaped}
 use Rattle.tlcp.specs.Numbers.{CodeWithin}
 use Rattle.tlcp.specs.Dividing.{has}
-use Rattle.tlcp.proofs.Encoded.{has-append}
+use Rattle.tlcp.proofs.Encoded.{has-append, has-decimal}
 use Rattle.tlcp.proofs.Unescaped.{decodes-by}
 use Rattle.tlcp.proofs.Unescaped.{plain-percent, reads-escapes}
 use Rattle.tlcp.specs.Lines as lines
@@ -17,7 +17,7 @@ use Rattle.tlcp.specs.declared.tag.Tag.{Tag}
 use Rattle.tlcp.proofs.Saying.{reads-said}
 use Rattle.notify.specs.Given.{Given, code, Saying, spell, argued, is_within, all_within, within, line_text}
 use Rattle.notify.specs.Back.{argument, arguments, laid, Sound, Meant, ReadBack, LineUnbroken}
-use Rattle.notify.proofs.Apart.{Apart, plain, has-plain, has-decimal, has-signed, has-text, has-list}
+use Rattle.notify.proofs.Apart.{Apart, plain, has-plain, has-signed, has-text, has-list}
 
 -- the numbers of a sort are of 64 bits
 abbrev Bounded : Sort → Type 0
@@ -46,7 +46,7 @@ meant g sound = search (rules, decodes-by is_escaped plain-percent)
 -- a byte c that stands in no argument
 module _ (c : ℕ) (apart : Apart c) where
   has-given : (k : Sort) (g : Given) → Bounded k → is_within k g ≡ true → Sound g → has c (spell g) ≡ false
-  has-given k g bound is sound = search (rules, has-decimal c apart, has-signed c apart, has-text c apart, has-list c apart, false≢true)
+  has-given k g bound is sound = search (rules, has-decimal c apart.digit apart.percent, has-signed c apart, has-text c apart, has-list c apart, false≢true)
 
   -- if it is no comma, it stands in no line
   module _ (other : eqb 44 c ≡ false) where

@@ -5,8 +5,7 @@ use Rattle.std.proofs.lemmas.Bool.{cond-true, cond-false}
 use Rattle.tlcp.specs.Escapes.{Decodes, nothing, plain, decoded, decode_answer, overlaid}
 use Rattle.tlcp.specs.Lists.{read_content, read_text, text_or}
 use Rattle.tlcp.specs.Parts.{place_of}
-use Rattle.tlcp.proofs.Places.{found-nowhere}
-use Rattle.tlcp.proofs.WordsAndEnds.{place-within}
+use Rattle.tlcp.proofs.Places.{found-nowhere, place-within}
 use Rattle.tlcp.proofs.Encoded.{sound-answer, take-overlaid}
 use Rattle.tlcp.proofs.Unescaped.{reads-escapes}
 

@@ -17,4 +17,3 @@ pub mod Encoding
 pub mod Encoded
 pub mod Dividing
 pub mod Words
-pub mod WordsAndEnds
