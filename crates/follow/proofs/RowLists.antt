@@ -63,7 +63,3 @@ module _ (row rest : List (Cell TextRecord)) (long : length row ≡ field_limit)
 
   pub row-first : (e : Entry) (es : List Entry) → rows_text (e ∷ es) (row ++ rest) ≡ row_text e row ++ rows_text es rest
   row-first e es = λ j. row_text e (first-row j) ++ later-rows 0 es j
-
-pub rows-none : (es : List Entry) (cells : List (Cell TextRecord)) → length es ≡ 0 → rows_text es cells ≡ []
-rows-none [] cells e = refl
-rows-none (e ∷ es) cells h = absurd (omega arith)

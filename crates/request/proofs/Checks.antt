@@ -21,9 +21,6 @@ module _ (session : ℕ) (line t : List ℕ) (short : length line ≤ spelled_li
   here : checked session line ≡ and_then (read_request session t) (anew_text session)
   here = cond-true _ _ _ (le-leb (length line) spelled_limit short) ∙ ap (read_spelled session) (sym is)
 
-  pub checked_refused : (e : Refusal) → Err e ≡ read_request session t → Err e ≡ checked session line
-  checked_refused e refused = sym (here ∙ ap (λ r. and_then r (anew_text session)) (sym refused))
-
   pub checked-written : (q : Request) (out : List ℕ) (r : Result ℕ Refusal) (bytes : List ℕ) → out ≡ replicate request_limit 0 → Ok q ≡ read_request session t → Anew session q out r bytes → on_ok (λ n. take n bytes) r ≡ checked session line
   checked-written q out r bytes zeros read written =
       text_of _ _ r bytes written.length written.text

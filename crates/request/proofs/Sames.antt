@@ -3,9 +3,10 @@ use Rattle.std.proofs.Common.{◌≡◌, ℕ, ◌+◌, ◌-◌, ◌<◌, ◌≤�
 use Rattle.std.specs.List.{AllByRecursion}
 use Rattle.std.proofs.ByRecursion.{All-weaker}
 use Rattle.std.proofs.lemmas.List.{length-replicate, take_at}
-use Rattle.std.proofs.lemmas.Bool.{and_from, and_parts, cond_both, cond-true, le-leb, ltb-true}
+use Rattle.std.proofs.lemmas.Bool.{and_from, cond_both, cond-true, le-leb}
 use Rattle.std.proofs.lemmas.Bool.Decides.{nat_tests}
 use Rattle.tlcp.specs.Said.{on_ok}
+use Rattle.row.specs.Every.{all-bytes}
 use Rattle.row.specs.Texts.{every, is_byte, padded}
 use Rattle.tlcp.specs.Bytes.{is_hex, is_plain}
 use Rattle.tlcp.specs.Escapes.{Decodes, nothing, plain, escape, hex_value}
@@ -58,13 +59,9 @@ fine-found (g ∷ gs) p h =
     cond_both (eqb (index_of p) (index_of g.parameter)) (Some g.text) (found gs p) (λ o. Fine (unwrap_or o []))
     (λ _. (decoded-small sound.plain sound.decodes, sound.short)) (λ _. fine-found gs p h.1)
 
-bytes_small : (t : List ℕ) → every is_byte t ≡ true → AllByRecursion (λ b. b < 256) t
-bytes_small [] e = tt
-bytes_small (b ∷ t) e = let both = and_parts (is_byte b) (every is_byte t) e in (ltb-true b 256 both.0, bytes_small t both.1)
-
 -- a word that is written out
 fine-word : (t : List ℕ) → every is_byte t ≡ true → length t ≤ value_limit → Fine t
-fine-word t e short = (bytes_small t e, short)
+fine-word t e short = (all-bytes t e, short)
 
 -- what stands for a password
 hidden : Fine (codes "redacted")

@@ -1,9 +1,11 @@
 -- Requests: the reader of `specs/Requests` accepts exactly the bytes that ask for a request.
-use Rattle.std.proofs.Common.{◌≡◌, ℕ, suc, ◌+◌, ◌<◌, ◌≤◌, true, false, ◌&&◌, eqb, ltb, leb, List, [], ◌∷◌, ◌++◌, map, length, take, drop, is_some, Some, None, Ok, Option, sym, refl, ap, ◌∙◌, subst, arith}
+use Rattle.std.proofs.Common.{◌≡◌, ℕ, suc, ◌+◌, ◌<◌, ◌≤◌, true, false, eqb, ltb, leb, List, [], ◌∷◌, ◌++◌, map, length, take, drop, is_some, Some, None, Ok, Option, sym, refl, ap, ◌∙◌, subst, arith}
 use Rattle.std.specs.List.{AllByRecursion}
 use Rattle.std.proofs.ByRecursion.{All-weaker}
 use Rattle.std.proofs.lemmas.List.{drop_at, drop-drop, length-append, take_at}
-use Rattle.std.proofs.lemmas.Bool.{and_from, and_left, and_parts, and_right, both_ways, cond_both, cond-true, cond-false, eqb-true, leb-true, le-leb, ltb-true, lt-ltb, or_parts}
+use Rattle.std.proofs.lemmas.Bool.{and_from, and_left, and_right, both_ways, cond_both, cond-true, cond-false, leb-true, le-leb, ltb-true, lt-ltb, or_parts}
+use Rattle.std.proofs.lemmas.Bool.Decides.{nat_tests}
+use Rattle.std.proofs.lemmas.Grind.{common_steps}
 use Rattle.tlcp.specs.Lines.{and_then}
 use Rattle.tlcp.specs.Dividing.{divided_by, ends_here, has, joined_by, line_end}
 use Rattle.tlcp.proofs.Dividing.{divided-joined, joined-divided}
@@ -22,11 +24,7 @@ use Rattle.requests.proofs.Pairing.{Listed, all_read, none_has, ok-where, read_a
 
 -- a line cut at its first CR LF
 ends_with : (b : ℕ) (s : List ℕ) → ends_here (b ∷ s) ≡ true → b ∷ s ≡ 13 ∷ 10 ∷ drop 2 (b ∷ s)
-ends_with b [] e = absurd (both_ways _ refl e)
-ends_with b (c ∷ s) e =
-    let both = (and_parts _ (eqb b 13 && eqb c 10) e).1 in
-    let (cr, lf) = and_parts (eqb b 13) (eqb c 10) both in
-    λ i. eqb-true b 13 cr i ∷ eqb-true c 10 lf i ∷ s
+ends_with b s e = grind (arith, nat_tests, common_steps)
 
 line-whole : (s : List ℕ) → line_end s < length s → take (line_end s) s ++ (13 ∷ 10 ∷ drop (line_end s + 2) s) ≡ s
 line-whole [] = λ h. absurd (omega arith)

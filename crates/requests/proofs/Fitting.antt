@@ -1,8 +1,8 @@
 -- The values that a parameter takes: the tests of `specs/Values` against the words of `specs/Asked`.
 use Rattle.std.proofs.Common.{◌≡◌, ℕ, ◌≤◌, Bool, true, false, ◌&&◌, eqb, leb, List, [], ◌∷◌, length, is_some, Some, None, codes, Decides, Option, refl, ap, subst, arith, lit<}
 use Rattle.std.specs.List.{AllByRecursion}
-use Rattle.std.proofs.lemmas.Bool.{and_from, and_parts, both_ways, eq-eqb, leb-true, le-leb, not-true, not_from_false}
-use Rattle.std.proofs.lemmas.Bool.Decides.{Decides-eqb, Decides-like}
+use Rattle.std.proofs.lemmas.Bool.{and_from, both_ways, eq-eqb, leb-true, le-leb, not-true, not_from_false}
+use Rattle.std.proofs.lemmas.Bool.Decides.{Decides-and, Decides-eqb, Decides-like}
 use Rattle.std.proofs.ByRecursion.{Decides-by_and}
 use Rattle.row.specs.Texts.{every}
 use Rattle.tlcp.specs.Bytes.{is_alphanumeric, is_digit}
@@ -36,13 +36,7 @@ decides-every p = Decides-by_and p (λ b. p b ≡ true) (every p) (λ b. (λ e. 
 
 -- three tests are one, of all that they decide
 decides-three : {P Q R : Type 0} {x y z : Bool} → Decides x P → Decides y Q → Decides z R → Decides (x && (y && z)) (P × Q × R)
-decides-three {x = x} {y = y} {z = z} p q r = (
-  λ e.
-      let first = and_parts x (y && z) e in
-      let others = and_parts y z first.1 in
-      (p.0 first.0, q.0 others.0, r.0 others.1),
-  λ h. and_from x (y && z) (p.1 h.0) (and_from y z (q.1 h.1) (r.1 h.2)),
-)
+decides-three {x = x} {y = y} {z = z} p q r = Decides-like _ (λ h. (h.0, h.1.0, h.1.1)) (λ h. (h.0, (h.1, h.2))) (Decides-and x (y && z) p (Decides-and y z q r))
 
 decides-id : (t : List ℕ) → Decides (is_some (number_of 1 id_limit t)) (Right 0 SubscriptionId t)
 decides-id t = (

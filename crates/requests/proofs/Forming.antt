@@ -1,5 +1,5 @@
 -- What pairs ask for: the reader of `specs/Requests` against the forms of `specs/Asked`.
-use Rattle.std.proofs.Common.{◌≡◌, ℕ, true, false, not, eqb, List, [], ◌∷◌, is_some, Some, None, Ok, codes, Option, unwrap_or, sym, refl, ap, ◌∙◌, subst, ⊎_elim}
+use Rattle.std.proofs.Common.{◌≡◌, ℕ, true, false, not, eqb, List, [], ◌∷◌, is_some, Some, None, Ok, codes, Option, unwrap_or, sym, refl, ap, ◌∙◌, subst, ⊎_elim, arith}
 use Rattle.std.specs.Option.{option_map}
 use Rattle.std.specs.List.{AllByRecursion}
 use Rattle.std.proofs.lemmas.Bool.{cases_Bool, cond_both, cond-true, cond-false, both_ways, eq-eqb, not-false, not_from_true, or_cases, or_from, or_parts}
@@ -86,9 +86,7 @@ mapped-none f g None e = refl
 mapped-none f g (Some x) e = cc
 
 leftmost-none : (a b : Option ℕ) → leftmost a b ≡ None → (a ≡ None) × (b ≡ None)
-leftmost-none None b e = (refl, e)
-leftmost-none (Some n) None e = ((cc), (cc))
-leftmost-none (Some n) (Some m) e = ((cc), (cc))
+leftmost-none a b e = grind (arith)
 
 abbrev Untaken : List Parameter → (Parameter → Option (List ℕ)) → Parameter → Type 0
 Untaken taken look p = is_in p taken ≡ false → look p ≡ None
@@ -101,9 +99,7 @@ unfit-none taken ps (p ∷ l) e =
 
 none-unfit : (taken : List Parameter) (ps : Pairs) (l : List Parameter) → ((p : Parameter) → Untaken taken (λ q. text_of q ps) p) → unfit taken ps l ≡ None
 none-unfit taken ps [] h = refl
-none-unfit taken ps (p ∷ l) h =
-    let here : unfit_of taken ps p ≡ None = cond_both (is_in p taken) None _ (λ o. o ≡ None) (λ _. refl) (λ out. mapped-none (λ x. x.text) (λ x. x.at) (pair_of p ps) (h p out)) in
-    ap (λ o. leftmost o (unfit taken ps l)) here ∙ none-unfit taken ps l h
+none-unfit taken ps (p ∷ l) h = grind (arith, h p, none-unfit taken ps l h, mapped-none (λ x. x.text) (λ x. x.at) (pair_of p ps))
 
 -- the same of pairs in a row
 pub only-found : (taken : List Parameter) (gs : List Given) → ((p : Parameter) → Untaken taken (found gs) p) → AllByRecursion (λ g. is_in g.parameter taken ≡ true) gs

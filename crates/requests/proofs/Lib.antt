@@ -1,5 +1,4 @@
 pub mod Valued
-pub mod Slots
 pub mod Spread
 pub mod Least
 pub mod Fitting

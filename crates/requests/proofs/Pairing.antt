@@ -1,11 +1,13 @@
 -- Pairs: the reader of `specs/Requests` against the pairs of `specs/Asked`.
-use Rattle.std.proofs.Common.{◌≡◌, ℕ, suc, ◌+◌, ◌<◌, ◌≤◌, Bool, true, false, cond, eqb, ltb, leb, List, [], ◌∷◌, ◌++◌, map, length, get_or, take, drop, is_some, Some, None, Ok, Err, Option, Result, sym, refl, ap, ◌∙◌, subst, ⊎_elim, arith}
+use Rattle.std.proofs.Common.{◌≡◌, ℕ, ◌+◌, ◌<◌, ◌≤◌, Bool, true, false, cond, eqb, leb, List, [], ◌∷◌, ◌++◌, map, length, get_or, take, drop, is_some, Some, None, Ok, Err, Option, Result, sym, refl, ap, ◌∙◌, subst, ⊎_elim, arith}
 use Rattle.std.specs.Option.{option_map}
-use Rattle.std.specs.List.{AllByRecursion}
+use Rattle.std.specs.List.{AllByRecursion, position_or_len}
 use Rattle.std.proofs.ByRecursion.{All-get_or}
-use Rattle.std.proofs.lemmas.List.{length-append, length-set, get_or-set_same, get_or-set_other, get_or-replicate, take_at, drop_at, drop-drop}
-use Rattle.std.proofs.lemmas.Bool.{cases_Bool, cond_both, cond-true, cond-false, both_ways, or_cases, or_from, or_left, or_parts, or_right, eqb-true, eqb-false, eq-eqb, ne_eqb, ltb-true, lt-ltb}
+use Rattle.std.proofs.lemmas.List.{length-append, length-set, get_or-replicate, take_at, drop_at, drop-drop}
+use Rattle.std.proofs.lemmas.List.Sums.{passes_at_first, split_at_first}
+use Rattle.std.proofs.lemmas.Bool.{cases_Bool, cond-true, cond-false, both_ways, or_from, or_left, or_right, eqb-true, eqb-false, eq-eqb, ne_eqb, lt-ltb}
 use Rattle.std.proofs.lemmas.Bool.Decides.{nat_tests}
+use Rattle.std.proofs.lemmas.Grind.{common_steps}
 use Rattle.tlcp.specs.Lines.{and_then}
 use Rattle.tlcp.specs.Said.{on_ok}
 use Rattle.row.specs.declared.fault.Refusal.{Refusal}
@@ -17,6 +19,7 @@ use Rattle.tlcp.specs.Lines.{same_bytes}
 use Rattle.tlcp.proofs.Words.{first_word}
 use Rattle.tlcp.proofs.Words.{same_bytes_lem}
 use Rattle.tlcp.proofs.Encoded.{has-append}
+use Rattle.tlcp.proofs.Places.{place-is}
 use Rattle.tlcp.proofs.Unescaped.{reads-escapes}
 use Rattle.requests.specs.Asked.{Apart, Given, Sound, found, spelling}
 use Rattle.requests.specs.Limits.{value_limit}
@@ -95,39 +98,23 @@ first-in (q ∷ xs) s p e =
 
 in-first : (xs : List Parameter) (p : Parameter) → is_in p xs ≡ true → first_with parameter_word xs (parameter_word p) ≡ Some p
 in-first [] p e = cc
-in-first (q ∷ xs) p e =
-    ⊎_elim
-    (λ this. cond-true _ (Some q) _ this ∙ ap Some (sym (same_word p q (same_bytes_lem _ _ this))))
-    (λ other.
-    let differs : eqb (index_of p) (index_of q) ≡ true → ⊥ = λ same. both_ways _ other (subst (λ r. same_bytes (parameter_word p) (parameter_word r) ≡ true) (same_index p q same) (same_self (parameter_word p))) in
-    cond-false _ (Some q) _ other ∙ in-first xs p (⊎_elim (λ same. absurd (differs same)) (λ h. h) (or_cases (eqb (index_of p) (index_of q)) (is_in p xs) e)))
-    (cases_Bool (same_bytes (parameter_word p) (parameter_word q)))
+in-first (q ∷ xs) p e = grind (arith, nat_tests, in-first xs p, same_word p q, same_bytes_lem (parameter_word p) (parameter_word q), same_index p q, same_self (parameter_word p))
 
 -- a text cut at the first c
 module _ (c : ℕ) where
   cut-whole : (s : List ℕ) → place_of c s < length s → before c s ++ (c ∷ drop (place_of c s + 1) s) ≡ s
-  cut-whole [] = λ h. absurd (omega arith)
-  cut-whole (b ∷ s) =
-      cond_both (eqb b c) 0 (suc (place_of c s)) (λ n. n < length (b ∷ s) → take n (b ∷ s) ++ (c ∷ drop (n + 1) (b ∷ s)) ≡ b ∷ s)
-      (λ this h. ap (λ d. d ∷ s) (sym (eqb-true b c this)))
-      (λ _ h.
-      let next : suc (place_of c s) + 1 ≡ suc (place_of c s + 1) = omega arith in
-      ap (λ n. b ∷ (before c s ++ (c ∷ drop n (b ∷ s)))) next ∙ ap (λ t. b ∷ t) (cut-whole s (omega arith)))
+  cut-whole s =
+      subst (λ n. n < length s → take n s ++ (c ∷ drop (n + 1) s) ≡ s) (sym (place-is c s))
+      (λ inside.
+      let n = position_or_len (λ b. eqb b c) s in
+      ap (λ d. take n s ++ (d ∷ drop (n + 1) s)) (sym (eqb-true _ c (passes_at_first (λ b. eqb b c) s c inside))) ∙ sym (split_at_first (λ b. eqb b c) s c inside))
 
   behind-whole : (s t : List ℕ) → behind c s ≡ Some t → before c s ++ (c ∷ t) ≡ s
-  behind-whole s t e =
-      ⊎_elim
-      (λ inside.
-      let same : drop (place_of c s + 1) s ≡ t = cc (cond-true _ (Some (drop (place_of c s + 1) s)) None inside) in
-      ap (λ u. before c s ++ (c ∷ u)) (sym same) ∙ cut-whole s (ltb-true _ _ inside))
-      (λ outside. let none : Some t ≡ None = sym e ∙ cond-false _ _ None outside in cc)
-      (cases_Bool (ltb (place_of c s) (length s)))
+  behind-whole s t e = grind (arith, nat_tests, cut-whole s)
 
   place-whole : (s t : List ℕ) → has c s ≡ false → place_of c (s ++ (c ∷ t)) ≡ length s
   place-whole [] t e = cond-true (eqb c c) _ _ (eq-eqb c c refl)
-  place-whole (b ∷ s) t e =
-      let parts = or_parts (eqb b c) (has c s) e in
-      cond-false (eqb b c) 0 _ parts.0 ∙ ap suc (place-whole s t parts.1)
+  place-whole (b ∷ s) t e = grind (arith, nat_tests, place-whole s t)
 
   before-whole : (s t : List ℕ) → has c s ≡ false → before c (s ++ (c ∷ t)) ≡ s
   before-whole s t e = take_at s (c ∷ t) _ (sym (place-whole s t e))
@@ -141,10 +128,7 @@ module _ (c : ℕ) where
 -- a value is read exactly from bytes that are sound
 plain-read : (at : ℕ) (raw u t : List ℕ) (o : Option ℕ) → plain_or at raw u o ≡ Ok t → (o ≡ None) × (u ≡ t) × (every is_plain raw ≡ true) × (leb (length u) value_limit ≡ true)
 plain-read at raw u t (Some n) e = refused e
-plain-read at raw u t None e =
-    let (plain, rest) = ok-where (every is_plain raw) _ _ t e in
-    let (short, is) = ok-where (leb (length u) value_limit) _ _ t rest in
-    (refl, (cc), plain, short)
+plain-read at raw u t None e = grind (arith, nat_tests)
 
 value_read : (at : ℕ) (p : Parameter) (raw t : List ℕ) → read_value at raw ≡ Ok t → Sound (record { parameter = p; raw = raw; text = t })
 value_read at p raw t e =
@@ -240,22 +224,10 @@ module _ (g : Given) (old new : Parameter → Option (List ℕ)) (is : (p : Para
       (is h.parameter ∙ cond-false _ _ _ (differ _ _ other) ∙ here, from-apart gs rest more)
 
   else-more : (gs : List Given) → found gs g.parameter ≡ None → (p : Parameter) → or_else (found gs p) (new p) ≡ or_else (found (g ∷ gs) p) (old p)
-  else-more gs apart p =
-      ⊎_elim
-      (λ same. ap (λ o. or_else o (new p)) (ap (found gs) (same_index p g.parameter same) ∙ apart) ∙ is p ∙ cond-true _ _ _ same ∙ ap (λ o. or_else o (old p)) (sym (cond-true _ _ _ same)))
-      (λ other. ap (or_else (found gs p)) (is p ∙ cond-false _ _ _ other) ∙ ap (λ o. or_else o (old p)) (sym (cond-false _ _ _ other)))
-      (cases_Bool (eqb (index_of p) (index_of g.parameter)))
+  else-more gs apart p = grind (arith, nat_tests, same_index p g.parameter, is p)
 
 text-added : (p : Parameter) (at value_at : ℕ) (ps : Pairs) (t : List ℕ) → length ps ≡ parameter_count → (q : Parameter) → text_of q (add_pair p at value_at ps t) ≡ cond (eqb (index_of q) (index_of p)) (Some t) (text_of q ps)
-text-added p at value_at ps t size q =
-    let x : Option Pair = Some (record { at = at; value_at = value_at; text = t }) in
-    ⊎_elim
-    (λ same.
-    ap (λ r. text_of r (add_pair p at value_at ps t)) (same_index q p same)
-    ∙ ap (option_map (λ y. y.text)) (get_or-set_same ps (index_of p) x None (omega (arith, (known p).small)))
-    ∙ sym (cond-true _ _ _ same))
-    (λ other. ap (option_map (λ y. y.text)) (get_or-set_other ps (index_of p) (index_of q) x None (eqb-false _ _ other)) ∙ sym (cond-false _ _ _ other))
-    (cases_Bool (eqb (index_of q) (index_of p)))
+text-added p at value_at ps t size q = grind (arith, nat_tests, common_steps, same_index q p, (known p).small)
 
 -- qs is ps with the pairs gs, which are listed, are given once each, and are not given in ps
 record Taken (n : Name) (ps qs : Pairs) (gs : List Given) : Type 0 where

@@ -26,7 +26,7 @@ split-push : (b : ℕ) (ss : List (List ℕ)) → onto_first b ss ≡ push b ss
 split-push b [] = refl
 split-push b (s ∷ ss) = refl
 
-pub split-divided : (c : ℕ) (s : List ℕ) → slice_split (λ b. eqb b c) s ≡ divided_by c s
+split-divided : (c : ℕ) (s : List ℕ) → slice_split (λ b. eqb b c) s ≡ divided_by c s
 split-divided c [] = refl
 split-divided c (b ∷ s) =
     let rest = split-divided c s in

@@ -2,7 +2,8 @@
 use Rattle.std.proofs.Common.{◌≡◌, ℕ, ◌≤◌, true, cond, leb, List, length, take, Some, None, Ok, Err, Option, Result, sym, refl, ap, ◌∙◌, ok_or, arith}
 use Rattle.std.specs.Option.{option_map}
 use Rattle.std.specs.Result.{MatchResult}
-use Rattle.std.proofs.lemmas.Bool.{cond-true, cond-false, cond_both, leb-true}
+use Rattle.std.proofs.lemmas.Bool.{cond-true}
+use Rattle.std.proofs.lemmas.Bool.Decides.{nat_tests}
 use Rattle.tlcp.specs.Lists.{refusal}
 use Rattle.tlcp.specs.Said.{on_ok}
 use Rattle.tlcp.specs.declared.bounded.Bounded.{Bounded}
@@ -43,7 +44,4 @@ module _ (raw : List ℕ) (at n : ℕ) (answer : Ok n ≡ decode_answer (decoded
       held short = ap (take n) holds ∙ take-overlaid (decoded raw).bytes xs n size (omega arith)
 
       fitted : ok_or (cond (leb n value_limit) (Some (take n buffer)) None) (refusal Length 0) ≡ cond (leb (length (decoded raw).bytes) value_limit) (Ok (decoded raw).bytes) (Err (refusal Length 0))
-      fitted =
-          cond_both (leb n value_limit) _ _ (λ v. ok_or v (refusal Length 0) ≡ cond (leb (length (decoded raw).bytes) value_limit) (Ok (decoded raw).bytes) (Err (refusal Length 0)))
-          (λ short. ap Ok (held (leb-true _ _ short)) ∙ sym (cond-true _ _ _ (ap (λ k. leb k value_limit) (sym size) ∙ short)))
-          (λ long. sym (cond-false _ _ _ (ap (λ k. leb k value_limit) (sym size) ∙ long)))
+      fitted = grind (arith, nat_tests, size, held)

@@ -1,6 +1,7 @@
 -- A function applied place by place, and its meaning.
-use Rattle.std.proofs.Common.{◌≡◌, Bool, true, false, cond, ◌&&◌, List, [], ◌∷◌, map, length, sym, refl, ap, ◌∙◌, arith, ◌==◌}
-use Rattle.std.proofs.lemmas.Bool.{and_from, and_parts, eq-eqb, eqb-true}
+use Rattle.std.proofs.Common.{◌≡◌, Bool, true, false, cond, List, [], ◌∷◌, map, length, sym, refl, ap, ◌∙◌, arith, ◌==◌}
+use Rattle.std.proofs.lemmas.Bool.{and_from, and_parts, cond_both, cond-true, cond-false, eq-eqb, eqb-true}
+use Rattle.std.proofs.Math.Bool.{and_comm}
 use Rattle.row.specs.Limits.{field_limit}
 use Rattle.row.specs.Rows.{over, becomes, change_cell, join_change, changed, join}
 use Rattle.row.specs.Kinds.{Kind}
@@ -11,7 +12,7 @@ use Rattle.row.specs.declared.change.Mark.{Mark}
 use Rattle.row.specs.declared.change.Mark.TheVariants.{Same, Null, Value}
 
 -- where p and q read the two kinds of element, p reads f as g
-pub map-over : {X Y A B : Type 0} (p : X → A) (q : Y → B) (f : X → Y → X) (g : A → B → A) → ((x : X) (y : Y) → p (f x y) ≡ g (p x) (q y)) → (xs : List X) (ys : List Y) → map p (over f xs ys) ≡ over g (map p xs) (map q ys)
+map-over : {X Y A B : Type 0} (p : X → A) (q : Y → B) (f : X → Y → X) (g : A → B → A) → ((x : X) (y : Y) → p (f x y) ≡ g (p x) (q y)) → (xs : List X) (ys : List Y) → map p (over f xs ys) ≡ over g (map p xs) (map q ys)
 map-over p q f g e [] ys = refl
 map-over p q f g e (x ∷ xs) [] = refl
 map-over p q f g e (x ∷ xs) (y ∷ ys) = λ i. e x y i ∷ map-over p q f g e xs ys i
@@ -40,18 +41,8 @@ over-onto f [] (y ∷ ys) e = absurd (omega arith)
 over-onto f (x ∷ xs) [] e = absurd (omega arith)
 over-onto f (x ∷ xs) (y ∷ ys) e = ap (λ l. f y ∷ l) (over-onto f xs ys (omega arith))
 
-cond-where : {X : Type 0} (b : Bool) (x y z : X) → (b ≡ true → x ≡ y) → cond b x z ≡ cond b y z
-cond-where true x y z e = e refl
-cond-where false x y z e = refl
-
-and-swap : (a b : Bool) → (a && b) ≡ (b && a)
-and-swap true true = refl
-and-swap true false = refl
-and-swap false true = refl
-and-swap false false = refl
-
 pub fit-swap : {X Y : Type 0} (xs : List X) (ys : List Y) → rows_fit xs ys ≡ rows_fit ys xs
-fit-swap xs ys = and-swap (length xs == field_limit) (length ys == field_limit)
+fit-swap xs ys = and_comm (length xs == field_limit) (length ys == field_limit)
 
 pub rows_fit_lem : {X Y : Type 0} (xs : List X) (ys : List Y) → length xs ≡ field_limit → length ys ≡ field_limit → rows_fit xs ys ≡ true
 rows_fit_lem xs ys e f = and_from _ _ (eq-eqb (length xs) field_limit e) (eq-eqb (length ys) field_limit f)
@@ -62,20 +53,16 @@ same-length xs ys e =
     omega (arith, eqb-true (length xs) field_limit h.0, eqb-true (length ys) field_limit h.1)
 
 pub onto-or : {X Y : Type 0} (f : Y → X) (xs : List X) (ys : List Y) → cond (rows_fit xs ys) (over (λ x y. f y) xs ys) xs ≡ cond (rows_fit xs ys) (map f ys) xs
-onto-or f xs ys = cond-where (rows_fit xs ys) _ _ xs (λ e. over-onto f xs ys (same-length xs ys e))
+onto-or f xs ys =
+    cond_both (rows_fit xs ys) _ _ (λ l. l ≡ cond (rows_fit xs ys) (map f ys) xs) (λ e. over-onto f xs ys (same-length xs ys e) ∙ sym (cond-true _ _ _ e)) (λ e. sym (cond-false _ _ _ e))
 
 pub map-either : {X Y : Type 0} (p : X → Y) (b : Bool) (xs ys : List X) → map p (cond b xs ys) ≡ cond b (map p xs) (map p ys)
 map-either p true xs ys = refl
 map-either p false xs ys = refl
 
-map-map : {X Y Z : Type 0} (f : X → Y) (g : Y → Z) (h : X → Z) → ((x : X) → g (f x) ≡ h x) → (xs : List X) → map g (map f xs) ≡ map h xs
-map-map f g h e [] = refl
-map-map f g h e (x ∷ xs) = λ i. e x i ∷ map-map f g h e xs i
-
 pub wholly-means : {R : Type 0} (k : Kind R) (cs : List (Cell R)) → map (change_of k) (map wholly cs) ≡ map becomes (map (cell_of k) cs)
-wholly-means k cs =
-    map-map wholly (change_of k) (λ c. becomes (cell_of k c)) (λ c. by c.null c.raw) cs
-    ∙ sym (map-map (cell_of k) becomes (λ c. becomes (cell_of k c)) (λ c. refl) cs)
+wholly-means k [] = refl
+wholly-means k (c ∷ cs) = λ i. by c.null c.raw i ∷ wholly-means k cs i
   where
     by : (n : Bool) (r : _) → change_of k (wholly (record { null = n; raw = r })) ≡ becomes (cell_of k (record { null = n; raw = r }))
     by true r = refl

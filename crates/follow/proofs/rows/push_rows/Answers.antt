@@ -1,7 +1,7 @@
-use Rattle.std.proofs.Common.{◌≡◌, ◌++◌, length, vec_items, sym, ap, ◌∙◌, ⊎_elim, append_assoc, rules, arith}
-use Rattle.std.proofs.lemmas.List.{append-nil, length-append}
+use Rattle.std.proofs.Common.{◌++◌, length, vec_items, sym, ap, ◌∙◌, append_assoc, rules, arith}
+use Rattle.std.proofs.lemmas.List.{length-append}
 use Rattle.follow.specs.Answers.{row_text, rows_text}
-use Rattle.follow.proofs.RowLists.{row-first, rows-none}
+use Rattle.follow.proofs.RowLists.{row-first}
 use Rattle.follow.proofs.rows.push_rows.Goals as goal
 
 pub loop-entry-preserved : goal.loop-entry-preserved
@@ -21,10 +21,3 @@ loop-entry-preserved c =
           ∙ sym (ap (λ l. out ++ l) ((λ j. rows_text (entries j) (cells j)) ∙ row-first row left.b.rest.now (long ∙ turn.invariant.size) c.in-Some.entry.now left.a.rest.now))
           ∙ turn.invariant.text;
     }
-
-pub returns : goal.returns
-returns c =
-    let turn = c.loop-entry in
-    let entries = turn.entry-iterator.a.rest.now in
-    let none : length entries ≡ 0 = ⊎_elim (λ (x : _). x.1.0) (λ x. omega (arith, turn.invariant.long, turn.invariant.size, x.1.1.0)) c.in-None.ensures.steps in
-    sym (ap (λ l. vec_items turn.out ++ l) (rows-none entries turn.entry-iterator.b.rest.now none) ∙ append-nil (vec_items turn.out)) ∙ turn.invariant.text

@@ -1,6 +1,6 @@
 use Rattle.std.proofs.Common.{◌≡◌, cond, map, ap, ◌∙◌}
 use Rattle.std.proofs.lemmas.Bool.{cond-true}
-use Rattle.row.specs.Records.{answer_if, change_of, rows_fit, wholly}
+use Rattle.row.specs.Records.{change_of, rows_fit, wholly}
 use Rattle.row.proofs.Over.{fit-swap, onto-or, wholly-means}
 use Rattle.row.proofs.change.whole_row.Goals as goal
 use Rattle.row.proofs.change.whole_row.Goals.{After-step_all}
@@ -11,9 +11,6 @@ made g c =
     let row = c.args.row.now in
     let delta = c.args.delta.now in
     c.step_all.ensures.places ∙ onto-or wholly delta row ∙ ap (λ b. cond b (map wholly row) delta) (fit-swap delta row)
-
-pub returns-clause-answer : goal.returns-clause-answer
-returns-clause-answer g c = c.step_all.ensures.answer ∙ ap answer_if (fit-swap c.args.delta.now c.args.row.now)
 
 pub returns-clause-changes : goal.returns-clause-changes
 returns-clause-changes g c = made g (goal.at.returns-clause-changes g c).After-step_all

@@ -1,22 +1,15 @@
-use Rattle.std.proofs.Common.{◌≡◌, ◌+◌, ◌*◌, ◌^◌, ◌<◌, true, map, length, get_or, take, Some, sym, refl, ap, ◌∙◌, arith, rules}
+use Rattle.std.proofs.Common.{◌≡◌, ◌+◌, ◌*◌, ◌^◌, ◌<◌, true, map, length, get_or, take, sym, ap, ◌∙◌, arith, rules}
 use Rattle.std.specs.Int.Digits.{number_from_digits}
 use Rattle.std.proofs.lemmas.List.{take_all}
-use Rattle.std.proofs.lemmas.Bool.{cond-true, cond-false}
+use Rattle.std.proofs.lemmas.List.Folds.{list_all_more}
+use Rattle.std.proofs.lemmas.Bool.{and_from}
 use Rattle.row.specs.Limits.{text_limit}
 use Rattle.row.specs.Texts.{every}
-use Rattle.row.specs.Logics.{is_logic, bit_a, bit_b, logic_allowed, logic_sound, logic_record}
-use Rattle.row.specs.declared.logic.LogicRecord.{LogicRecord}
-use Rattle.row.specs.Every.{every_more, some-from-cond, none-from-cond}
-use Rattle.row.specs.LogicsLemmas.{bit_a-small, bit_b-small, word_more, word_fits, not-allowed, allowed-from, record-sound}
+use Rattle.row.specs.Logics.{is_logic, bit_a, bit_b, logic_sound}
+use Rattle.row.specs.Every.{some-from-cond}
+use Rattle.row.specs.LogicsLemmas.{bit_a-small, bit_b-small, word_more, word_fits, allowed-from, record-sound}
 use Rattle.row.proofs.logic.Logic.new.Goals as goal
 use Rattle.row.proofs.logic.Logic.new.Goals.{In_ok-in_a, After-loop-character}
-
-pub returns-in_err-in_a : goal.returns-in_err-in_a
-returns-in_err-in_a c =
-    let text = c.args.text.now in
-    let refused = none-from-cond (is_logic (get_or text c.loop-character.character-index 0)) _ c.in_err-in_a.ensures in
-    rw c.from_residual.ensures
-    (sym (cond-false (logic_allowed text) _ _ (not-allowed text c.loop-character.character-index c.loop-character-test.true refused)))
 
 -- a turn makes the words of one character more
 turn : (c : In_ok-in_a) → (is_logic (get_or c.args.text.now c.loop-character.character-index 0) ≡ true) × (2 * c.loop-character.a + c.in_ok-in_a.in_a ≡ number_from_digits 2 (map bit_a (take (c.loop-character.character-index + 1) c.args.text.now))) × (2 * c.loop-character.b + c.in_ok-in_a.in_b ≡ number_from_digits 2 (map bit_b (take (c.loop-character.character-index + 1) c.args.text.now)))
@@ -50,25 +43,14 @@ overflow_add-b c = omega (arith, fits-b c)
 pub loop-character-preserved : goal.loop-character-preserved
 loop-character-preserved c =
     let h = turn c in
-    (every_more is_logic c.args.text.now c.loop-character.character-index _ c.loop-character-test.true refl c.loop-character.invariant.0 h.0, h.1, h.2)
+    (list_all_more is_logic c.args.text.now c.loop-character.character-index 0 c.loop-character-test.true ∙ and_from _ _ c.loop-character.invariant.0 h.0, h.1, h.2)
 
 -- behind the loop the whole text has been read
-done : (c : After-loop-character) → (logic_allowed c.args.text.now ≡ true) × (◌≡◌ {A = LogicRecord} (record { a = c.loop-character.a; b = c.loop-character.b; width = length c.args.text.now }) (logic_record c.args.text.now))
-done c =
+pub invariant_of-result : goal.invariant_of-result
+invariant_of-result c =
     let text = c.args.text.now in
     let whole = take_all c.loop-character.character-index text c.loop-character-test.false in
     let in_a = c.loop-character.invariant.1 ∙ ap (λ t. number_from_digits 2 (map bit_a t)) whole in
-    let in_b = c.loop-character.invariant.2 ∙ ap (λ t. number_from_digits 2 (map bit_b t)) whole in (
-      allowed-from text (search rules) (omega arith) (ap (every is_logic) (sym whole) ∙ c.loop-character.invariant.0),
-      λ i. record { a = in_a i; b = in_b i; width = length text },
-    )
-
-pub invariant_of-result : goal.invariant_of-result
-invariant_of-result c =
-    let d = done c in
-    record { sound = ap logic_sound d.1 ∙ record-sound c.args.text.now d.0 }
-
-pub returns : goal.returns
-returns c =
-    let d = done (goal.at.returns c).After-loop-character in
-    ap Some d.1 ∙ sym (cond-true (logic_allowed c.args.text.now) _ _ d.0)
+    let in_b = c.loop-character.invariant.2 ∙ ap (λ t. number_from_digits 2 (map bit_b t)) whole in
+    let allowed = allowed-from text (search rules) (omega arith) (ap (every is_logic) (sym whole) ∙ c.loop-character.invariant.0) in
+    record { sound = (λ i. logic_sound (record { a = in_a i; b = in_b i; width = length text })) ∙ record-sound text allowed }
