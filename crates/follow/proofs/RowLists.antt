@@ -6,11 +6,9 @@ use Rattle.std.proofs.lemmas.Bool.{cond-true, and_parts, leb-true, le-leb, eq-eq
 use Rattle.row.specs.Limits.{field_limit}
 use Rattle.row.specs.Records.{cell_of, change_of, wholly}
 use Rattle.row.specs.Rows.{becomes}
-use Rattle.row.specs.Texts.{text_kind}
+use Rattle.row.specs.Kinds.{Kind, Lawful}
 use Rattle.row.specs.declared.change.Cell.{Cell}
 use Rattle.row.specs.declared.change.Change.{Change}
-use Rattle.row.specs.declared.text.TextRecord.{TextRecord}
-use Rattle.row.specs.Every.{text-lawful}
 use Rattle.row.proofs.Over.{wholly-means}
 use Rattle.tlcp.specs.Bounds.{extended, has_room, list_extended}
 use Rattle.tlcp.specs.Lists.{written_list}
@@ -21,34 +19,34 @@ use Rattle.viewer.specs.declared.entry.Entry.{Entry}
 use Rattle.follow.specs.Answers.{list_text, row_text, rows_from, rows_text}
 
 -- a whole row's list, appended to nothing
-pub row-list : (row : List (Cell TextRecord)) (fields : ℕ) (delta : List (Change TextRecord)) → delta ≡ map wholly row → length row ≡ field_limit → list_extended text_kind list_limit [] delta fields ≡ list_text row fields
-row-list row fields delta whole long =
+pub row-list : {R : Type 0} (k : Kind R) → Lawful k → (row : List (Cell R)) (fields : ℕ) (delta : List (Change R)) → delta ≡ map wholly row → length row ≡ field_limit → list_extended k list_limit [] delta fields ≡ list_text k row fields
+row-list k law row fields delta whole long =
     cond-true (length delta == 12) _ [] (eq-eqb (length delta) 12 twelve) ∙ by (covers fields) refl
   where
     twelve : length delta ≡ 12
     twelve = ap length whole ∙ length-map row wholly ∙ long
 
     list : List ℕ
-    list = written_list (changes_of text_kind delta fields)
+    list = written_list (changes_of k delta fields)
 
-    list-is : list ≡ written_list (take fields (map becomes (map (cell_of text_kind) row)))
+    list-is : list ≡ written_list (take fields (map becomes (map (cell_of k) row)))
     list-is =
         ap written_list
-        (sym (take-map (change_of text_kind) fields delta)
-        ∙ ap (take fields) (ap (map (change_of text_kind)) whole ∙ wholly-means text_kind row))
+        (sym (take-map (change_of k) fields delta)
+        ∙ ap (take fields) (ap (map (change_of k)) whole ∙ wholly-means k row))
 
     fits : covers fields ≡ true → has_room list_limit [] list ≡ true
     fits some =
         let parts = and_parts (leb 1 fields) (leb fields 12) some in
-        let short = list-short text_kind delta fields twelve (leb-true fields 12 parts.1) text-lawful (leb-true 1 fields parts.0) in
-        le-leb (0 + length (written_list (changes_of text_kind delta fields))) list_limit (omega arith)
+        let short = list-short k delta fields twelve (leb-true fields 12 parts.1) law (leb-true 1 fields parts.0) in
+        le-leb (0 + length (written_list (changes_of k delta fields))) list_limit (omega arith)
 
-    by : (b : Bool) → covers fields ≡ b → cond b (extended list_limit [] list) [] ≡ cond b (written_list (take fields (map becomes (map (cell_of text_kind) row)))) []
+    by : (b : Bool) → covers fields ≡ b → cond b (extended list_limit [] list) [] ≡ cond b (written_list (take fields (map becomes (map (cell_of k) row)))) []
     by true some = cond-true (has_room list_limit [] list) list [] (fits some) ∙ list-is
     by false none = refl
 
 -- a row, and the cells behind it
-module _ (row rest : List (Cell TextRecord)) (long : length row ≡ field_limit) where
+module _ {R : Type 0} (k : Kind R) (row rest : List (Cell R)) (long : length row ≡ field_limit) where
   first-row : row_at 0 (row ++ rest) ≡ row
   first-row = ap (λ n. take n (row ++ rest)) (sym long) ∙ take-append_seam row rest
 
@@ -57,9 +55,9 @@ module _ (row rest : List (Cell TextRecord)) (long : length row ≡ field_limit)
       let k : 12 * (i + 1) ≡ length row + 12 * i = omega arith in
       ap (λ n. take 12 (drop n (row ++ rest))) k ∙ ap (take 12) (drop-append-add row rest (12 * i))
 
-  later-rows : (i : ℕ) (es : List Entry) → rows_from (i + 1) es (row ++ rest) ≡ rows_from i es rest
+  later-rows : (i : ℕ) (es : List Entry) → rows_from k (i + 1) es (row ++ rest) ≡ rows_from k i es rest
   later-rows i [] = refl
-  later-rows i (e ∷ es) = λ j. row_text e (later-row i j) ++ later-rows (i + 1) es j
+  later-rows i (e ∷ es) = λ j. row_text k e (later-row i j) ++ later-rows (i + 1) es j
 
-  pub row-first : (e : Entry) (es : List Entry) → rows_text (e ∷ es) (row ++ rest) ≡ row_text e row ++ rows_text es rest
-  row-first e es = λ j. row_text e (first-row j) ++ later-rows 0 es j
+  pub row-first : (e : Entry) (es : List Entry) → rows_text k (e ∷ es) (row ++ rest) ≡ row_text k e row ++ rows_text k es rest
+  row-first e es = λ j. row_text k e (first-row j) ++ later-rows 0 es j

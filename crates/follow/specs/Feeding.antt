@@ -1,10 +1,9 @@
 -- What the input does to a follower, line by line, and what is printed of it.
 use Rattle.std.specs.Prelude.{ℕ, ◌+◌, List, [], ◌∷◌, map, replicate}
 use Rattle.row.specs.Limits.{field_limit}
+use Rattle.row.specs.Kinds.{Kind}
 use Rattle.row.specs.Records.{held, null_cell}
 use Rattle.row.specs.Rows.{same}
-use Rattle.row.specs.Texts.{text_kind}
-use Rattle.row.specs.declared.text.TextRecord.{TextRecord}
 use Rattle.tlcp.specs.Limits.{line_limit}
 use Rattle.viewer.specs.Hearing.{Outcome, heard}
 use Rattle.viewer.specs.Entries.{waiting}
@@ -18,29 +17,30 @@ use Rattle.follow.specs.declared.follower.Follower.{Follower}
 abbrev pub held_limit : ℕ
 held_limit = line_limit + 2
 
--- what comes of a line
-abbrev pub outcome : Follower → List ℕ → Outcome TextRecord
-outcome f line = heard text_kind f.viewer.entries f.cells f.delta line
+module _ {R : Type 0} (k : Kind R) where
+  -- what comes of a line
+  abbrev pub outcome : Follower R → List ℕ → Outcome R
+  outcome f line = heard k f.viewer.entries f.cells f.delta line
 
-abbrev pub heard_by : Outcome TextRecord → Follower
-heard_by o = record { viewer = record { entries = o.entries }; cells = o.cells; delta = o.delta }
+  abbrev pub heard_by : Outcome R → Follower R
+  heard_by o = record { viewer = record { entries = o.entries }; cells = o.cells; delta = o.delta }
 
--- each line is answered, and at the end the open rows are printed
-abbrev pub hearing : Hearing held_limit Follower
-hearing = record {
-  next = λ f line. heard_by (outcome f line);
-  answer = λ f line. answer_text (outcome f line).answer;
-  closing = λ f. rows_text f.viewer.entries f.cells;
-}
+  -- each line is answered, and at the end the open rows are printed
+  abbrev pub hearing : Hearing held_limit (Follower R)
+  hearing = record {
+    next = λ f line. heard_by (outcome f line);
+    answer = λ f line. answer_text (outcome f line).answer;
+    closing = λ f. rows_text k f.viewer.entries f.cells;
+  }
 
--- a follower that has heard nothing
-abbrev pub opened : Follower
-opened = record {
-  viewer = record { entries = map waiting (1 ∷ 2 ∷ 3 ∷ 4 ∷ 5 ∷ 6 ∷ 7 ∷ 8 ∷ []) };
-  cells = replicate cell_limit (null_cell text_kind);
-  delta = replicate field_limit (held text_kind same);
-}
+  -- a follower that has heard nothing
+  abbrev pub opened : Follower R
+  opened = record {
+    viewer = record { entries = map waiting (1 ∷ 2 ∷ 3 ∷ 4 ∷ 5 ∷ 6 ∷ 7 ∷ 8 ∷ []) };
+    cells = replicate cell_limit (null_cell k);
+    delta = replicate field_limit (held k same);
+  }
 
--- all that is printed of an input
-abbrev pub printed : List ℕ → List ℕ
-printed = streams.printed hearing opened
+  -- all that a follower prints of an input
+  abbrev pub printed : Follower R → List ℕ → List ℕ
+  printed = streams.printed hearing

@@ -1,26 +1,26 @@
-// A viewer of text values, as the listener of a stream.
+// A viewer of values of a kind, as the listener of a stream.
 ghost use Rattle.std.specs.Prelude.{◌≡◌};
 ghost use Rattle.follow.specs.Feeding.{held_limit, hearing, opened};
 
 use crate::print::push_answer;
 use crate::rows::push_rows;
-use row::{Cell, Change, FIELD_LIMIT, TextRecord};
+use row::{Cell, Change, FIELD_LIMIT, Value};
 use std::alloc::AllocError;
 use streams::Hear;
 use tlcp::LINE_LIMIT;
 use viewer::{CELL_LIMIT, Viewer};
 
 #[derive(Drop)]
-pub struct Follower {
+pub struct Follower<V> {
     viewer: Viewer,
-    cells: [Cell<TextRecord>; CELL_LIMIT],
-    delta: [Change<TextRecord>; FIELD_LIMIT],
+    cells: [Cell<V>; CELL_LIMIT],
+    delta: [Change<V>; FIELD_LIMIT],
 }
 
-impl Follower {
+impl<V: Value> Follower<V> {
     // A viewer whose entries hold the IDs 1 to 8, closed, and nothing heard.
-    pub fn new() -> Follower
-        ensures { result ≡ opened }
+    pub fn new() -> Follower<V>
+        ensures { result ≡ opened V.kind }
     {
         Follower {
             viewer: Viewer::holding([1, 2, 3, 4, 5, 6, 7, 8]),
@@ -30,13 +30,13 @@ impl Follower {
     }
 }
 
-impl Hear for Follower {
+impl<V: Value> Hear for Follower<V> {
     ghost LIMIT = { held_limit };
 
     // Enough to tell a line that is too long, whether CR LF ends it or LF.
     const LIMIT: usize = LINE_LIMIT + 2;
 
-    ghost hearing = { hearing };
+    ghost hearing = { hearing V.kind };
 
     fn hear(&mut self, line: &[u8], out: &mut Vec<u8>) -> Result<(), AllocError> {
         let answer = self.viewer.hear(line, &mut self.cells, &mut self.delta);

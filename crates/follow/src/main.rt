@@ -6,25 +6,50 @@ ghost use Rattle.std.specs.Io.KnownBytes.{Appends};
 ghost use Rattle.follow.specs.Feeding.{printed};
 
 mod follower;
+mod kind;
 mod print;
 mod rows;
 
+use anyhow::{Context, ensure};
 use follower::Follower;
+use kind::Kind;
+use row::{LogicRecord, TextRecord, Value};
+use std::env;
 use std::io::{self, Read, Write};
 use streams::answer_all;
 
-// Answers the lines of an input, and prints the open rows behind its end.
-pub fn follow<R: Read, W: Write>(
+// What is said of any other arguments.
+const USAGE: &str = "the kind of value is text or logic";
+
+// The kind that the program's arguments name, behind its own name: text where they name none.
+fn chosen(rt: &HostRuntime) -> anyhow::Result<Kind> {
+    let mut words = env::args(rt)?;
+    let _ = words.next();
+    let Some(word) = words.next() else {
+        return Ok(Kind::Text);
+    };
+    ensure!(words.next().is_none(), "{USAGE}");
+    Kind::named(&word).context(USAGE)
+}
+
+// Answers the lines of an input with values of a kind, and prints the open rows behind its end.
+pub fn follow<V: Value, R: Read, W: Write>(
     rt: &impl AllocGlobal,
+    follower: Follower<V>,
     input: &mut R,
     output: &mut W,
 ) -> io::Result<()>
-    ensures { OnOk result (IfSome (R.remaining input.old) (λ s. length s + 1 < 2 ^ 64 → Appends (W.contents output.old) (W.contents output.new) (printed s))) }
+    ensures { OnOk result (IfSome (R.remaining input.old) (λ s. length s + 1 < 2 ^ 64 → Appends (W.contents output.old) (W.contents output.new) (printed V.kind follower s))) }
 {
-    answer_all(rt, Follower::new(), input, output)
+    answer_all(rt, follower, input, output)
 }
 
 fn main(rt: HostRuntime) -> anyhow::Result<()> {
-    follow(&rt, &mut rt.stdin(), &mut rt.stdout())?;
+    let kind = chosen(&rt)?;
+    let (input, output) = (&mut rt.stdin(), &mut rt.stdout());
+    match kind {
+        Kind::Text => follow(&rt, Follower::<TextRecord>::new(), input, output)?,
+        Kind::Logic => follow(&rt, Follower::<LogicRecord>::new(), input, output)?,
+    }
     Ok(())
 }

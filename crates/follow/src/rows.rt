@@ -4,15 +4,15 @@ ghost use Rattle.row.specs.Limits.{field_limit};
 ghost use Rattle.viewer.specs.Limits.{cell_limit};
 ghost use Rattle.follow.specs.Answers.{list_text, row_text, rows_text};
 
-use row::{Cell, Change, FIELD_LIMIT, TextRecord, whole_row};
+use row::{Cell, Change, FIELD_LIMIT, Value, whole_row};
 use std::alloc::AllocError;
 use tlcp::{Bounded, LIST_LIMIT};
 use viewer::{Entry, Viewer};
 
 // Appends the values of a row's first fields.
-fn push_list(out: &mut Vec<u8>, row: &[Cell<TextRecord>], fields: usize) -> Result<(), AllocError>
+fn push_list<V: Value>(out: &mut Vec<u8>, row: &[Cell<V>], fields: usize) -> Result<(), AllocError>
     requires { length row.now ≡ field_limit }
-    ensures { OnOk result (out.new.items ≡ out.old.items ++ list_text row.now fields) }
+    ensures { OnOk result (out.new.items ≡ out.old.items ++ list_text V.kind row.now fields) }
 {
     let mut delta = [Change::same(); FIELD_LIMIT];
     let _ = whole_row(row, &mut delta);
@@ -24,9 +24,9 @@ fn push_list(out: &mut Vec<u8>, row: &[Cell<TextRecord>], fields: usize) -> Resu
 }
 
 // Appends an open entry's row as a whole U line.
-fn push_row(out: &mut Vec<u8>, entry: Entry, row: &[Cell<TextRecord>]) -> Result<(), AllocError>
+fn push_row<V: Value>(out: &mut Vec<u8>, entry: Entry, row: &[Cell<V>]) -> Result<(), AllocError>
     requires { length row.now ≡ field_limit }
-    ensures { OnOk result (out.new.items ≡ out.old.items ++ row_text entry row.now) }
+    ensures { OnOk result (out.new.items ≡ out.old.items ++ row_text V.kind entry row.now) }
 {
     if let Some(fields) = entry.fields {
         let front = format!(in *out.allocator(); "U,{},1,", entry.id)?;
@@ -38,13 +38,13 @@ fn push_row(out: &mut Vec<u8>, entry: Entry, row: &[Cell<TextRecord>]) -> Result
 }
 
 // Appends the open rows, in the order of the entries.
-pub(crate) fn push_rows(
+pub(crate) fn push_rows<V: Value>(
     out: &mut Vec<u8>,
     viewer: &Viewer,
-    cells: &[Cell<TextRecord>],
+    cells: &[Cell<V>],
 ) -> Result<(), AllocError>
     requires { length cells.now ≡ cell_limit }
-    ensures { OnOk result (out.new.items ≡ out.old.items ++ rows_text viewer.now.entries cells.now) }
+    ensures { OnOk result (out.new.items ≡ out.old.items ++ rows_text V.kind viewer.now.entries cells.now) }
 {
     for (entry, row) in viewer.entries().iter().zip(cells.chunks_exact(FIELD_LIMIT)) {
         push_row(out, *entry, row)?;

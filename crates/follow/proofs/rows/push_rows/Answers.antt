@@ -5,7 +5,8 @@ use Rattle.follow.proofs.RowLists.{row-first}
 use Rattle.follow.proofs.rows.push_rows.Goals as goal
 
 pub loop-entry-preserved : goal.loop-entry-preserved
-loop-entry-preserved c =
+loop-entry-preserved g c =
+    let k = g.V.Value.kind in
     let (entries, (sizes, (cells, long), _)) = c.in-Some.ensures.steps in
     let turn = c.loop-entry in
     let out = vec_items turn.out in
@@ -16,8 +17,8 @@ loop-entry-preserved c =
       size = sizes ∙ turn.invariant.size;
       long = omega (arith, turn.invariant.long, turn.invariant.size, long, ap length entries, ap length cells ∙ length-append row left.b.rest.now);
       text =
-          ap (λ l. l ++ rows_text left.a.rest.now left.b.rest.now) c.in_ok-push_row.ensures
-          ∙ append_assoc out (row_text c.in-Some.entry.now row) _
-          ∙ sym (ap (λ l. out ++ l) ((λ j. rows_text (entries j) (cells j)) ∙ row-first row left.b.rest.now (long ∙ turn.invariant.size) c.in-Some.entry.now left.a.rest.now))
+          ap (λ l. l ++ rows_text k left.a.rest.now left.b.rest.now) c.in_ok-push_row.ensures
+          ∙ append_assoc out (row_text k c.in-Some.entry.now row) _
+          ∙ sym (ap (λ l. out ++ l) ((λ j. rows_text k (entries j) (cells j)) ∙ row-first k row left.b.rest.now (long ∙ turn.invariant.size) c.in-Some.entry.now left.a.rest.now))
           ∙ turn.invariant.text;
     }
