@@ -25,7 +25,7 @@ pub struct Change<R> {
 }
 
 // A field's state. Where it is null, `raw` is the kind's rest record.
-// kept: a flag beside the record, as a change has its mark
+// kept: a record beside the flag also where it is null, as in a change, by the project's rule
 #[derive(Clone, Copy)]
 pub struct Cell<R> {
     pub null: bool,
@@ -51,15 +51,15 @@ impl<R: Copy> Cell<R> {
     }
 }
 
-impl<R: Copy> Cell<R> {
-    // The change that gives any cell this one's state.
-    pub fn as_change(self) -> Change<R>
-        ensures { result ≡ wholly self }
-    {
-        let mark = if self.null { Mark::Null } else { Mark::Value };
+// The change that gives any cell this one's state.
+impl<R: Copy> From<Cell<R>> for Change<R> {
+    ghost from_gives = { λ cell change. change ≡ wholly cell };
+
+    fn from(cell: Cell<R>) -> Change<R> {
+        let mark = if cell.null { Mark::Null } else { Mark::Value };
         Change {
             mark,
-            raw: self.raw,
+            raw: cell.raw,
         }
     }
 }
@@ -68,7 +68,7 @@ impl<R: Copy> Change<R> {
     pub fn is_same(&self) -> bool
         ensures { result ≡ is_same self.now.mark }
     {
-        matches!(self.mark, Mark::Same)
+        self.mark == Mark::Same
     }
 
     // The change that stands for this one and then another.
@@ -139,7 +139,7 @@ impl<R: Copy> Step<Cell<R>> for Change<R> {
     ghost after = { λ _ c. wholly c };
 
     fn after(self, by: Cell<R>) -> Change<R> {
-        by.as_change()
+        by.into()
     }
 }
 
@@ -151,13 +151,14 @@ fn step_all<X: Step<By>, By: Copy>(places: &mut [X], by: &[By]) -> Result<(), Re
     if places.len() != FIELD_LIMIT || by.len() != FIELD_LIMIT {
         return Err(Refusal::MEMORY);
     }
-    // kept: of iter_mut().zip(by) a proof knows no element
+    // kept: with `iter_mut().zip(by)` nothing is known of the elements
     for (i, place) in places.iter_mut().enumerate() {
         *place = place.after(by[i]);
     }
     Ok(())
 }
 
+// kept: the library's `fill` wants a `clone` that cannot fail, which `Copy` does not say
 fn fill<X: Copy>(places: &mut [X], x: X)
     ensures { places.new ≡ replicate (length places.old) x }
 {

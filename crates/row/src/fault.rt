@@ -59,6 +59,7 @@ impl Fault {
 }
 
 // A fault and its place: an offset in the text for faults 2 to 8, otherwise 0.
+// kept: 0 and no Option where there is no place, since the protocol's refusals are two numbers
 #[derive(Clone, Copy, PartialEq, Debug)]
 pub struct Refusal {
     pub fault: Fault,

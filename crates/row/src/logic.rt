@@ -11,7 +11,8 @@ use crate::text::TEXT_LIMIT;
 use crate::value::Value;
 
 // A logic value as memory holds it. Nothing is known of it.
-#[derive(Clone, Copy, Debug)]
+// kept: words with a width beside are the plain record of lent memory, by the project's rule
+#[derive(Clone, Copy, PartialEq, Debug)]
 pub struct LogicRecord {
     pub a: u32,
     pub b: u32,
@@ -27,6 +28,7 @@ pub struct Logic {
 }
 
 // A character's bits in the two words.
+// kept: a pair of numbers, since the words are shifted by them; an enum would be turned into these and back
 fn bits_of(character: u8) -> Option<(u32, u32)>
     ensures { result ≡ (if is_logic character then Some (bit_a character, bit_b character) else None) }
 {
@@ -56,6 +58,14 @@ fn bit_at(word: u32, place: u8) -> u32
     ensures { result ≡ bit_at word place }
 {
     (word >> place) & 1
+}
+
+impl From<Logic> for LogicRecord {
+    ghost from_gives = { λ value held. held ≡ value.held };
+
+    fn from(value: Logic) -> LogicRecord {
+        value.held
+    }
 }
 
 impl Logic {
@@ -109,12 +119,6 @@ impl Logic {
         Some(Logic { held })
     }
 
-    pub(crate) fn record(&self) -> LogicRecord
-        ensures { result ≡ self.now.held }
-    {
-        self.held
-    }
-
     // Writes the text, with zeros behind it, and answers its length.
     pub(crate) fn write(&self, out: &mut [u8; TEXT_LIMIT]) -> usize
         ensures length { result ≡ length (logic_text self.now.held) }
@@ -122,7 +126,7 @@ impl Logic {
     {
         let LogicRecord { a, b, width } = self.held;
         *out = [0; TEXT_LIMIT];
-        // kept: place by place from the highest bit; of iter_mut().zip(..) a proof knows no element
+        // kept: from the highest bit; with `iter_mut()` over the first places nothing is known of the elements behind
         for i in 0..width {
             let place = width - 1 - i;
             out[i as usize] = char_of(bit_at(a, place), bit_at(b, place));
@@ -137,11 +141,11 @@ impl Value for LogicRecord {
     ghost lawful = { logic-lawful };
 
     fn rest() -> LogicRecord {
-        Logic::rest().record()
+        Logic::rest().into()
     }
 
     fn read(text: &[u8]) -> Option<LogicRecord> {
-        Logic::new(text).map(|value| value.record())
+        Logic::new(text).map(LogicRecord::from)
     }
 
     fn write(&self, out: &mut [u8; TEXT_LIMIT]) -> usize {

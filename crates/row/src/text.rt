@@ -9,7 +9,7 @@ pub const TEXT_LIMIT: usize = 32;
 
 // A text as memory holds it. Nothing is known of it.
 // kept: bytes with a length beside are the plain record of lent memory, by the project's rule
-#[derive(Clone, Copy, Debug)]
+#[derive(Clone, Copy, PartialEq, Debug)]
 pub struct TextRecord {
     pub bytes: [u8; TEXT_LIMIT],
     pub len: u8,
@@ -26,6 +26,14 @@ fn are_zero(bytes: &[u8]) -> bool
     ensures { result ≡ every is_zero bytes.now }
 {
     bytes.iter().all(|b| *b == 0)
+}
+
+impl From<Text> for TextRecord {
+    ghost from_gives = { λ value held. held ≡ value.held };
+
+    fn from(value: Text) -> TextRecord {
+        value.held
+    }
 }
 
 impl Text {
@@ -69,12 +77,6 @@ impl Text {
             return None;
         }
         Some(Text { held })
-    }
-
-    pub(crate) fn record(&self) -> TextRecord
-        ensures { result ≡ self.now.held }
-    {
-        self.held
     }
 
     // Writes the text, with zeros behind it, and answers its length.

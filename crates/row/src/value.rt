@@ -27,20 +27,20 @@ pub trait Value: Copy {
     ghost lawful: { Lawful kind };
 }
 
+// kept: as of `LogicRecord`, a line or two each; a trait over the checked types would be longer than both
 impl Value for TextRecord {
     ghost kind = { text_kind };
 
     ghost lawful = { text-lawful };
 
     fn rest() -> TextRecord {
-        Text::rest().record()
+        Text::rest().into()
     }
 
     fn read(text: &[u8]) -> Option<TextRecord> {
-        Text::new(text).map(|value| value.record())
+        Text::new(text).map(TextRecord::from)
     }
 
-    // kept: the same two lines as of `LogicRecord`; a trait over the checked types would be longer
     fn write(&self, out: &mut [u8; TEXT_LIMIT]) -> usize {
         let value = Text::check(*self).unwrap_or(Text::rest());
         value.write(out)

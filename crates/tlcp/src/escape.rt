@@ -51,9 +51,7 @@ pub fn decode(s: &[u8], out: &mut [u8]) -> Result<usize, Refusal>
     // kept: counted by hand, since the count is the answer, also past the room
     let mut n = 0;
     while !left.is_empty() {
-        let Some((b, rest)) = unit(left) else {
-            return Err(Fault::Escape.at(s.len() - left.len()));
-        };
+        let (b, rest) = unit(left).ok_or(Fault::Escape.at(s.len() - left.len()))?;
         if n < out.len() {
             out[n] = b;
         }

@@ -1,3 +1,4 @@
+use Rattle.std.specs.Option.{option_map}
 use Rattle.std.proofs.Common.{◌≡◌, ◌+◌, ◌-◌, ◌<◌, ◌≤◌, [], ◌∷◌, ◌++◌, length, set, sym, ap, ◌∙◌, append_assoc, arith}
 use Rattle.std.proofs.lemmas.List.{length_push}
 use Rattle.std.proofs.lemmas.Bool.{eqb-false}
@@ -10,14 +11,15 @@ pub loop-left-preserved : goal.loop-left-preserved
 loop-left-preserved c =
     let s = c.args.s.now in
     let left = c.loop-left.left.now in
-    let rest = c.in-Some.rest.now in
+    let rest = c.in_ok-b.rest.now in
     let t = c.loop-left.invariant.0 in
-    let b = c.in-Some.b in
+    let b = c.in_ok-b.b in
+    let read = ap (option_map (λ x. (x.0, x.1.now))) (sym c.in_ok-b.ensures.ok_part) ∙ c.unit.ensures in
     let some = eqb-false (length left) 0 (sym c.loop-left-test.ensures) in
-    let shorter = unit-shorter left _ (sym c.in-Some.ensures) in
+    let shorter = unit-shorter left _ (sym read) in
     let within = c.loop-left.invariant.2 in
     let at : length s - length left + (length left - length rest) ≡ length s - length rest = omega arith in
-    let step : decode_at (length s - length left) left ≡ onto (b ∷ []) (decode_at (length s - length rest) rest) = unit-step _ left (omega arith) ∙ ap (go_on _ (length left)) (sym c.in-Some.ensures) ∙ ap (λ n. onto (b ∷ []) (decode_at n rest)) at in
+    let step : decode_at (length s - length left) left ≡ onto (b ∷ []) (decode_at (length s - length rest) rest) = unit-step _ left (omega arith) ∙ ap (go_on _ (length left)) (sym read) ∙ ap (λ n. onto (b ∷ []) (decode_at n rest)) at in
     let long = length_push t b in
     let size = c.loop-left.invariant.1 in
     let out = c.args.out.now in
