@@ -44,7 +44,7 @@ pub(crate) fn put_pair(
     if at > out.len() {
         return Err(Fault::Length.at(0));
     }
-    // kept: the value first, where it fits so does what stands before it; a cursor would write in order, and leave a part
+    // kept: by places, the value first: if it fits, so does what stands before it; a cursor would leave a part of a refused pair
     let start = at + before.len() + word.len() + 1;
     let end = put_escaped(out, start, pair.value, Class::Reserved)?;
     let named = put(out, at, before)?;

@@ -12,7 +12,8 @@ use requests::{Name, PARAMETER_COUNT, Parameter, VALUE_LIMIT, is_in};
 use row::{Fault, Refusal};
 use tlcp::Worded;
 
-// How much of a request is written, and which parameters it has. Marks by parameter index take fixed memory.
+// How much of a request is written, and which parameters it has.
+// kept: marks by parameter index take fixed memory, by the project's rule
 #[derive(Clone, Copy)]
 struct Begun {
     len: usize,
@@ -21,7 +22,7 @@ struct Begun {
 
 // Holds the lent bytes until the request is finished. A password may be among them by then, so a request
 // that is left before leaves only zeros.
-// kept: the flag; before `begin` the bytes stay as they were, from then on zeros are owed on every way out but by `finish`
+// kept: the flag, by the project's rule: `drop` zeroes the bytes unless it is set, as it is before `begin` and by `finish`
 pub struct RequestWriter<'a> {
     out: &'a mut [u8],
     name: Name,
@@ -51,7 +52,7 @@ impl Drop for RequestWriter<'_> {
     }
 }
 
-// kept: `lent` in three contracts: that the bytes are still the same ones is a fact of a step, which no invariant says
+// kept: `lent` in three contracts; an invariant speaks of one state, and this says that a call leaves the same bytes lent
 impl<'a> RequestWriter<'a> {
     // A writer over lent bytes, which leaves them alone until its request begins.
     pub fn new(out: &'a mut [u8], name: Name) -> RequestWriter<'a>
@@ -88,9 +89,7 @@ impl<'a> RequestWriter<'a> {
         ensures pairs { (xs : List written.Pair) → Holds (draft_of self.old) xs → Holds (draft_of self.new) (pairs_after result xs (pair parameter value.now)) }
         ensures lent { self.new.out.ghost_name ≡ self.old.out.ghost_name }
     {
-        let Some(mut begun) = self.begun else {
-            return Err(Fault::Parts.at(0));
-        };
+        let mut begun = self.begun.ok_or(Fault::Parts.at(0))?;
         let i = parameter.index();
         if begun.given[i] || !is_in(parameter, self.name.parameters()) {
             return Err(Fault::Parts.at(0));

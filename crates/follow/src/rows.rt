@@ -1,13 +1,12 @@
 // The open rows, as they are printed at the end.
 ghost use Rattle.std.specs.Prelude.{◌≡◌, ◌++◌, length, OnOk};
 ghost use Rattle.row.specs.Limits.{field_limit};
-ghost use Rattle.viewer.specs.Limits.{cell_limit};
 ghost use Rattle.follow.specs.Answers.{list_text, row_text, rows_text};
 
 use row::{Cell, Change, FIELD_LIMIT, Value, whole_row};
 use std::alloc::AllocError;
 use tlcp::{Bounded, LIST_LIMIT};
-use viewer::{Entry, Viewer};
+use viewer::{CELL_LIMIT, Entry, Viewer};
 
 // Appends the values of a row's first fields.
 fn push_list<V: Value>(out: &mut Vec<u8>, row: &[Cell<V>], fields: usize) -> Result<(), AllocError>
@@ -15,6 +14,7 @@ fn push_list<V: Value>(out: &mut Vec<u8>, row: &[Cell<V>], fields: usize) -> Res
     ensures { OnOk result (out.new.items ≡ out.old.items ++ list_text V.kind row.now fields) }
 {
     let mut delta = [Change::same(); FIELD_LIMIT];
+    // both have the places of a row
     let _ = whole_row(row, &mut delta);
     let mut list = Bounded::<LIST_LIMIT>::new();
     // of no fields, or of more than a row has, nothing is printed
@@ -41,9 +41,8 @@ fn push_row<V: Value>(out: &mut Vec<u8>, entry: Entry, row: &[Cell<V>]) -> Resul
 pub(crate) fn push_rows<V: Value>(
     out: &mut Vec<u8>,
     viewer: &Viewer,
-    cells: &[Cell<V>],
+    cells: &[Cell<V>; CELL_LIMIT],
 ) -> Result<(), AllocError>
-    requires { length cells.now ≡ cell_limit }
     ensures { OnOk result (out.new.items ≡ out.old.items ++ rows_text V.kind viewer.now.entries cells.now) }
 {
     for (entry, row) in viewer.entries().iter().zip(cells.chunks_exact(FIELD_LIMIT)) {

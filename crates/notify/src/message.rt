@@ -5,7 +5,7 @@ ghost use Rattle.notify.specs.Given.{saying_of, within};
 use tlcp::{CODE_LIMIT, Limits, Tag};
 
 // A message of every tag but U. Texts are given as the bytes that they mean; item and item count are always 1.
-// Not the enum of what was read with other types in it: that has U, the items, and texts as parts of a line.
+// kept: apart from `tlcp::Notification`, which has U, the items, and texts as they stand in a line
 #[derive(Clone, Copy)]
 pub enum Message<'a> {
     Probe,

@@ -34,7 +34,7 @@ fn byte_of(h: u8, l: u8) -> Option<Step>
 }
 
 impl Behind {
-    // Nothing where the byte is out of place.
+    // `None` where the byte is out of place.
     fn step(self, b: u8) -> Option<Step>
         ensures { result ≡ step_of self b }
     {

@@ -1,4 +1,3 @@
-pub mod Valued
 pub mod Spread
 pub mod Least
 pub mod Fitting

@@ -12,7 +12,7 @@ use tlcp::{Class, Limits, all_of, is_word, read_number};
 pub const REQUEST_ID_LIMIT: usize = 8;
 
 // The numbers of sessions.
-const SESSIONS: Limits = Limits {
+const SESSION_NUMBERS: Limits = Limits {
     low: 0,
     high: u32::MAX,
 };
@@ -39,7 +39,7 @@ fn is_request_id(text: &[u8]) -> bool
 fn is_session(text: &[u8], session: u32) -> bool
     ensures { result ≡ same_bytes text.now (session_name session) }
 {
-    matches!(text, [b'S', digits @ ..] if read_number(digits, SESSIONS) == Some(session))
+    matches!(text, [b'S', digits @ ..] if read_number(digits, SESSION_NUMBERS) == Some(session))
 }
 
 impl Parameter {

@@ -125,7 +125,7 @@ impl Parameter {
         first_with(name.parameters(), word)
     }
 
-    // kept: pairs and marks stand in arrays by it, in fixed memory
+    // kept: pairs and marks stand in arrays by it, in fixed memory, by the project's rule
     pub fn index(self) -> usize
         ensures value { result ≡ index_of self }
         ensures bound { result < parameter_count }

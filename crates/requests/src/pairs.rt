@@ -22,7 +22,7 @@ pub(crate) struct Pair {
 // The pairs that have been read, each at the place of its parameter.
 #[derive(Clone, Copy)]
 pub(crate) struct Pairs {
-    // kept: by parameter index, in fixed memory
+    // kept: an array by parameter index, and no map: no heap, by the project's rule
     slots: [Option<Pair>; PARAMETER_COUNT],
 }
 

@@ -69,6 +69,7 @@ impl Pairs {
     fn whole(&self, form: Form) -> Option<Whole<'_>>
         ensures { MatchOption result (lacks (needs form) (pairs_in self.now) ≡ true) (λ w. (w.form ≡ form) × (w.pairs.now ≡ self.now)) }
     {
+        // kept: with `then` the closure that makes a `Whole` has to say by a clause of its own that nothing is missing
         if self.lack(form.needs()) {
             return None;
         }

@@ -37,7 +37,7 @@ impl Whole<'_> {
         Ok(())
     }
 
-    // The ID of a subscription: nothing where the value is no such number.
+    // The ID of a subscription, if the value is one.
     fn subscription(&self) -> Option<u32>
         ensures { result ≡ number_of 1 id_limit (value_of SubscriptionId (pairs_in self.now.pairs.now)) }
     {

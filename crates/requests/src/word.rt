@@ -6,7 +6,7 @@ ghost use Rattle.requests.specs.Values.{read_value};
 
 use crate::request::Part;
 use row::{Fault, Refusal};
-use tlcp::{Bounded, Class, all_of, decode};
+use tlcp::{Bounded, Class, all_of};
 
 // The bytes of a value, decoded.
 pub const VALUE_LIMIT: usize = 64;
@@ -17,10 +17,9 @@ pub type Word = Bounded<VALUE_LIMIT>;
 pub(crate) fn read_value(raw: Part<'_>) -> Result<Word, Refusal>
     ensures { on_ok word_text result ≡ read_value raw.entry.at raw.entry.bytes.now }
 {
-    let mut bytes = [0; VALUE_LIMIT];
-    let len = decode(raw.bytes, &mut bytes).map_err(|refusal| refusal.moved_by(raw.at))?;
+    let word = Word::decoded(raw.bytes).map_err(|refusal| refusal.moved_by(raw.at))?;
     if !all_of(raw.bytes, Class::Plain) {
         return Err(Fault::Value.at(raw.at));
     }
-    Word::of(bytes, len).ok_or(Fault::Length.at(0))
+    word.ok_or(Fault::Length.at(0))
 }

@@ -14,7 +14,7 @@ const PART: usize = 16;
 const LINE_END: u8 = b'\n';
 
 // Whether a line ends in the part.
-// kept: `any` leaves by a branch, and then `follow` takes some percent longer
+// kept: `any` leaves by a branch, and `follow` then takes some percent longer than before (bench/run)
 fn has_end(part: &[u8]) -> bool
     ensures { result ≡ list_any (λ b. b == line_end) part.now }
 {
@@ -22,7 +22,7 @@ fn has_end(part: &[u8]) -> bool
 }
 
 // The place of the first end in the part, or the part's length where there is none.
-// kept: `position` leaves by a branch, and then the search takes a third longer
+// kept: `position` leaves by a branch, and the search, which `follow`'s speed hangs on, then takes a third longer
 fn end_in(part: &[u8]) -> usize
     ensures value { result ≡ place_of line_end part.now }
     ensures within { result ≤ length part.now }

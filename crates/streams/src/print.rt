@@ -6,8 +6,8 @@ use itoa::Buffer;
 use row::Refusal;
 use std::alloc::AllocError;
 
-// Appends a number in decimal. `write!` takes 200 instructions more for a line than this does, and `follow` then is
-// slower than its plain counterpart.
+// Appends a number in decimal.
+// kept: bytes; with `write!`, which takes 200 instructions more a line, `follow` is slower than its plain counterpart
 pub(crate) fn push_number(out: &mut Vec<u8>, n: u64) -> Result<(), AllocError>
     ensures { OnOk result (out.new.items ≡ out.old.items ++ decimal n) }
 {

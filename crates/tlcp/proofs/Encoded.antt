@@ -1,24 +1,13 @@
 -- Texts with any bytes escaped: what they hold, how long they are, and that they are read back.
-use Rattle.std.proofs.Common.{◌≡◌, ℕ, ◌+◌, ◌^◌, decimal, ◌/◌, ◌%◌, ◌<◌, ◌≤◌, Bool, true, false, eqb, List, [], ◌∷◌, ◌++◌, length, take, drop, Some, None, Ok, Option, sym, refl, ap, ◌∙◌, arith}
+use Rattle.std.proofs.Common.{◌≡◌, ℕ, ◌+◌, ◌^◌, decimal, ◌/◌, ◌%◌, ◌<◌, Bool, true, false, eqb, List, [], ◌∷◌, ◌++◌, length, sym, refl, ap, ◌∙◌, arith}
 use Rattle.std.specs.List.{AllByRecursion}
-use Rattle.std.proofs.lemmas.List.{take_all, take_at}
 use Rattle.std.proofs.lemmas.Fmt.{decimal_by_steps}
 use Rattle.std.proofs.lemmas.Bool.Decides.{nat_tests}
 use Rattle.std.proofs.lemmas.Bool.{both_ways, or_parts, or_from, ne_eqb}
 use Rattle.tlcp.specs.Bytes.{is_hex, is_escaped, is_escaped_first}
 use Rattle.tlcp.specs.Dividing.{has}
-use Rattle.tlcp.specs.Escapes.{count_or, overlaid, hex_digit, spelled, encoded_by, encode_rest, encode}
-use Rattle.tlcp.proofs.Reading.{refused}
+use Rattle.tlcp.specs.Escapes.{hex_digit, spelled, encoded_by, encode_rest, encode}
 use Rattle.tlcp.proofs.Unescaped.{is-hex}
-
--- what `decode` answers where there is no fault, and what it leaves in its buffer
-pub sound-answer : (n : ℕ) (t : List ℕ) (f : Option ℕ) → Ok n ≡ count_or (length t) f → (n ≡ length t) × (f ≡ None)
-sound-answer n t None e = (cc, refl)
-sound-answer n t (Some at) e = refused (sym e)
-
-pub take-overlaid : (t xs : List ℕ) (n : ℕ) → n ≡ length t → n ≤ length xs → take n (overlaid t xs) ≡ t
-take-overlaid t xs n is room =
-    ap (λ l. take n (l ++ drop (length t) xs)) (take_all (length xs) t (omega arith)) ∙ take_at t (drop (length t) xs) n (sym is)
 
 -- it is none of the bytes that are no digits
 hex-other : (c n : ℕ) → is_hex c ≡ false → n < 16 → eqb (hex_digit n) c ≡ false

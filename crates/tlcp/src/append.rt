@@ -1,13 +1,15 @@
 // Bytes appended up to a limit.
-ghost use Rattle.std.specs.Prelude.{◌≡◌, ◌≤◌, [], length, take, Some, None, if◌then◌else◌, nat_le, decimal};
+ghost use Rattle.std.specs.Prelude.{◌≡◌, ◌<◌, ◌≤◌, [], length, IfErr, take, Some, None, if◌then◌else◌, nat_le, decimal};
 ghost use Rattle.std.specs.Option.{option_map};
 ghost use Rattle.tlcp.specs.Bytes.{in_class};
 ghost use Rattle.tlcp.specs.Escapes.{encoded_by};
-ghost use Rattle.tlcp.specs.Bounds.{extended, list_extended, list_room_answer, text_of, room_answer};
+ghost use Rattle.tlcp.specs.Said.{on_ok};
+ghost use Rattle.tlcp.specs.Bounds.{decoded_within, extended, list_extended, list_room_answer, text_of, room_answer};
 
 use crate::bounded::Bounded;
 use crate::class::Class;
 use crate::encode::put_escaped;
+use crate::escape::decode;
 use crate::list_write::write_list;
 use crate::write::{put, write_number};
 use row::{Change, Refusal, Value};
@@ -26,12 +28,22 @@ impl<const N: usize> Bounded<N> {
     pub fn of(bytes: [u8; N], len: usize) -> Option<Bounded<N>>
         ensures { option_map text_of result ≡ (if nat_le len N then Some (take len bytes.entry) else None) }
     {
-        // kept: of `then` the borrow checker takes no closure that makes a value with a parameter
+        // kept: the borrow checker does not cover a closure whose result has a parameter that nothing it takes names
         if len <= N {
             Some(Bounded { bytes, len })
         } else {
             None
         }
+    }
+
+    // The bytes that a text with escapes stands for, if they are not too many. Refuses what `decode` refuses.
+    pub fn decoded(text: &[u8]) -> Result<Option<Bounded<N>>, Refusal>
+        ensures answer { on_ok (option_map text_of) result ≡ decoded_within N text.now }
+        ensures within { IfErr result (λ r. r.place < length text.now) }
+    {
+        let mut bytes = [0; N];
+        let len = decode(text, &mut bytes)?;
+        Ok(Bounded::of(bytes, len))
     }
 
     pub fn text(&self) -> &[u8]

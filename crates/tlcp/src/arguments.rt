@@ -8,6 +8,7 @@ use crate::line::Part;
 use row::{Fault, Refusal};
 
 // The arguments that are left of a line, and where the line ends.
+// kept: `let .. else`, each miss with its fault and place, by the project's rule
 #[derive(Clone, Copy)]
 pub(crate) struct Arguments<'a> {
     pub(crate) left: Option<Part<'a>>,

@@ -18,7 +18,7 @@ impl<'a, const LIMIT: usize> Placed<'a, LIMIT> {
             bytes: front,
             at: self.at,
         };
-        // kept: of `map` the borrow checker takes no closure that makes a value with a parameter
+        // kept: the borrow checker does not cover a closure whose result has a parameter that nothing it takes names
         match rest {
             Some(rest) => {
                 let at = self.at + (front.bytes.len() + 1);

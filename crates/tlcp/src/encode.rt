@@ -9,11 +9,12 @@ use crate::write::put;
 use row::{Fault, Refusal};
 
 // The capital hexadecimal digit of a number below 16.
+// kept: the library's `from_digit` gives small letters
 pub(crate) fn hex_digit(n: u8) -> u8
     requires { n < 16 }
     ensures { result ≡ hex_digit n }
 {
-    if n <= 9 { b'0' + n } else { 55 + n }
+    if n <= 9 { b'0' + n } else { b'A' + (n - 10) }
 }
 
 // The two capital hexadecimal digits of a byte.
@@ -44,6 +45,7 @@ fn size(b: u8, class: Class) -> usize
 }
 
 // Whether a text takes no more than so many places, its bytes of the class escaped.
+// kept: of a `sum` behind `map` no bound is known, so it might overflow
 fn is_within(text: &[u8], class: Class, room: usize) -> bool
     ensures { result ≡ nat_le (length (encoded_by (in_class class) text.now)) room }
 {

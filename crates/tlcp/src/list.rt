@@ -6,9 +6,8 @@ ghost use Rattle.tlcp.specs.Held.{size_or, slot_after, held_delta, answer_of};
 ghost use Rattle.tlcp.specs.Lists.{uncovered, values, read_text, read_content, read_value, read_values, read_list, ReadsSpelled};
 
 use crate::bounded::Bounded;
-use crate::escape::decode;
 use crate::number::{Limits, read_number};
-use crate::text::{find, split};
+use crate::text::split;
 use row::{Change, FIELD_LIMIT, Fault, Mark, Refusal, TEXT_LIMIT, Value, blank};
 
 // The row is not covered exactly: the whole list is at fault.
@@ -17,9 +16,9 @@ pub const UNCOVERED: Refusal = Refusal {
     place: 0,
 };
 
-// kept: here and up to `read_value` three clauses, which the check finds one by one; as one relation each way out would
-// need an answer
 // A text in the place of a value.
+// kept: from here to `read_value` three clauses, which the check finds one by one; of one relation each way out would want
+// an answer
 fn read_text<R: Value>(text: &[u8], slot: &mut Change<R>) -> Result<usize, Refusal>
     ensures answer { result ≡ size_or (read_text R.kind.allowed text.now) }
     ensures change { slot.new ≡ slot_after R.kind (read_text R.kind.allowed text.now) slot.old }
@@ -39,9 +38,7 @@ fn read_escaped<R: Value>(value: &[u8], slot: &mut Change<R>) -> Result<usize, R
     ensures change { slot.new ≡ slot_after R.kind (read_content R.kind.allowed value.now) slot.old }
     ensures within { IfErr result (λ e. e.place ≤ length value.now) }
 {
-    let mut bytes = [0; TEXT_LIMIT];
-    let len = decode(value, &mut bytes)?;
-    let text = Bounded::of(bytes, len).ok_or(Fault::Value.at(0))?;
+    let text = Bounded::<TEXT_LIMIT>::decoded(value)?.ok_or(Fault::Value.at(0))?;
     read_text(text.text(), slot)
 }
 
@@ -51,10 +48,11 @@ fn read_content<R: Value>(value: &[u8], slot: &mut Change<R>) -> Result<usize, R
     ensures change { slot.new ≡ slot_after R.kind (read_content R.kind.allowed value.now) slot.old }
     ensures within { IfErr result (λ e. e.place ≤ length value.now) }
 {
-    match find(value, b'%') {
-        Some(_) => read_escaped(value, slot),
+    if value.contains(&b'%') {
+        read_escaped(value, slot)
+    } else {
         // most values have no escape, and need no buffer
-        None => read_text(value, slot),
+        read_text(value, slot)
     }
 }
 

@@ -21,6 +21,8 @@ pub const LIST_LIMIT: usize = PIPED_LIMIT - 1;
 
 type Piped = Bounded<PIPED_LIMIT>;
 
+// kept: each of the next three asks for the room of all that it puts, since what has no room would be put in part
+
 // A text as a value.
 fn put_text(list: &mut Piped, text: &[u8]) -> Result<(), Refusal>
     requires short { length text.now ≤ text_limit }
@@ -59,7 +61,7 @@ fn put_change<R: Value>(list: &mut Piped, change: &Change<R>) -> Result<(), Refu
         Mark::Same => Ok(()),
         Mark::Null => list.put(b"|#"),
         Mark::Value => {
-            // kept: a kind writes into bytes that are lent to it; it stands below `Bounded`
+            // kept: `Value::write` fills lent bytes, by the project's rule, and `row` knows no `Bounded`
             let mut text = [0; TEXT_LIMIT];
             let len = change.raw.write(&mut text);
             list.put(b"|")?;
@@ -95,6 +97,7 @@ pub fn covers(fields: usize) -> bool
     matches!(fields, 1..=FIELD_LIMIT)
 }
 
+// kept: here and in what calls it, a row's lent changes are twelve by the project's rule, and the field count comes beside
 // Writes the changes of the first fields of a delta as a list from the place `at` on, if it fits, and answers the place behind it.
 pub fn write_list<R: Value>(
     out: &mut [u8],

@@ -43,7 +43,7 @@ impl Limits {
     pub fn hold(self, n: u32) -> bool
         ensures { result ≡ hold self n }
     {
-        self.low <= n && n <= self.high
+        (self.low..=self.high).contains(&n)
     }
 }
 
@@ -66,6 +66,7 @@ fn is_misshapen(s: &[u8]) -> bool
 }
 
 // The number that `s` writes, if it is within the limits.
+// kept: digit by digit; the library's `parse` takes a sign and leading zeros
 pub fn read_number(s: &[u8], limits: Limits) -> Option<u32>
     ensures value { result ≡ number_of limits.low limits.high s.now }
     ensures bound { IfSome result (λ n. (limits.low ≤ n) × (n ≤ limits.high)) }

@@ -76,7 +76,7 @@ impl Worded for Tag {
 
 impl Tag {
     // The tag that a word stands for.
-    // kept: of a TryFrom for the unknown tag's refusal the proof of the line reader did not close
+    // kept: with `TryFrom`, whose error is the unknown tag's refusal, the proof of `read_line` did not close
     pub fn of(word: &[u8]) -> Option<Tag>
         ensures { result ≡ tag_of word.now }
     {

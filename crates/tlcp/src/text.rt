@@ -13,7 +13,7 @@ pub fn find(s: &[u8], b: u8) -> Option<usize>
 }
 
 // What stands before the first `b`, and what stands behind it, if there is one.
-// kept: a stream's lines are cut by a function of their own, which searches part by part; with this one `follow` is slower
+// kept: a stream's lines are cut by a function of their own, part by part; with this one `follow` is slower than before
 pub fn split(s: &[u8], b: u8) -> (&[u8], Option<&[u8]>)
     ensures front { result.0.now ≡ before b s.now }
     ensures back { option_map (λ x. x.now) result.1 ≡ behind b s.now }

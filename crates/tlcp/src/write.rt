@@ -5,7 +5,8 @@ ghost use Rattle.tlcp.specs.Written.{end_or, placed_or};
 use itoa::Buffer;
 use row::{Fault, Refusal};
 
-// kept: here and in all writers lent bytes and a place travel together, since these are what a caller has
+// kept: in all writers the bytes are lent, by the project's rule, and a caller goes on from the place
+
 // Writes `bytes` from the place `at` on, if they fit, and answers the place behind them.
 pub fn put(out: &mut [u8], at: usize, bytes: &[u8]) -> Result<usize, Refusal>
     ensures answer { result ≡ end_or at bytes.now out.old }

@@ -5,7 +5,7 @@ ghost use Rattle.viewer.specs.Entries.{find_entry, find_open, fits, fits_open};
 pub const TAP_LIMIT: usize = 8;
 
 // What the viewer knows of a tap: its subscription ID, and the field count if that is open.
-// kept: no ID is 0, so 0 stands for none; of an `Option`, `fits` and `waiting` would know two states, `None` and `Some(0)`
+// kept: 0 for no ID; `Viewer::holding` takes any numbers, so of an Option `None` and `Some(0)` would both be no ID
 #[derive(Clone, Copy, PartialEq, Debug)]
 pub struct Entry {
     pub id: u32,
@@ -32,7 +32,7 @@ pub(crate) fn find_open(entries: &[Entry], id: u32) -> Option<(usize, usize)>
     ensures value { result ≡ find_open id entries.now }
     ensures within { IfSome result (λ found. found.0 < length entries.now) }
 {
-    // kept: the entry is asked twice; of `enumerate` and `find_map` the proof did not close
+    // kept: found by its index and then asked again; with `enumerate` and `find_map` the proof did not close
     let i = find_open_index(entries, id)?;
     let fields = entries[i].fields?;
     Some((i, fields))

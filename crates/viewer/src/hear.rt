@@ -1,5 +1,7 @@
 // A viewer: hears lines, and keeps the rows of subscribed taps.
-ghost use Rattle.std.specs.Prelude.{◌≡◌, map, length};
+ghost use Rattle.std.specs.Prelude.{◌≡◌, map, length, replicate};
+ghost use Rattle.row.specs.Records.{held};
+ghost use Rattle.row.specs.Rows.{same};
 ghost use Rattle.row.specs.Limits.{field_limit};
 ghost use Rattle.tlcp.specs.Said.{arguments_in, piece_in, tag_in};
 ghost use Rattle.viewer.specs.Entries.{find_entry, find_open, fits, waiting};
@@ -24,8 +26,8 @@ pub struct Viewer {
     entries: [Entry; TAP_LIMIT],
 }
 
-// Lent cells and changes stay two parameters: a struct over both needs a clause at each function that it keeps
-// their places, which is longer than the two lengths that it spares.
+// kept: lent cells and changes are two parameters; a struct over both needs a clause at each function that it keeps their
+// places, which is longer than the facts that it spares
 impl Viewer {
     // A viewer whose entries hold these IDs, closed.
     pub fn holding(ids: [u32; TAP_LIMIT]) -> Viewer
@@ -52,10 +54,9 @@ impl Viewer {
         cells: &mut [Cell<R>],
         delta: &mut [Change<R>],
     ) -> Result<Heard, Refusal>
-        requires { (length cells.old ≡ cell_limit) × (length delta.old ≡ field_limit) }
+        requires { (length cells.old ≡ cell_limit) × (delta.old ≡ replicate field_limit (held R.kind same)) }
         ensures { outcome self.new.entries cells.new delta.new result ≡ set_entry R.kind self.old.entries cells.old entry (find_entry (fits id) self.old.entries) }
     {
-        blank(delta);
         let Some(i) = find_entry(&self.entries, id) else {
             return Ok(Heard::Passed);
         };
@@ -72,11 +73,10 @@ impl Viewer {
         cells: &mut [Cell<R>],
         delta: &mut [Change<R>],
     ) -> Result<Heard, Refusal>
-        requires { (length cells.old ≡ cell_limit) × (length delta.old ≡ field_limit) }
+        requires { (length cells.old ≡ cell_limit) × (delta.old ≡ replicate field_limit (held R.kind same)) }
         ensures { outcome self.now.entries cells.new delta.new result ≡ update R.kind self.now.entries cells.old (piece_in values.entry) (find_open id self.now.entries) }
     {
         let Some((i, fields)) = find_open(&self.entries, id) else {
-            blank(delta);
             return Ok(Heard::Passed);
         };
         read_list(values.bytes, fields, delta).map_err(|refusal| refusal.moved_by(values.at))?;
@@ -91,7 +91,7 @@ impl Viewer {
         cells: &mut [Cell<R>],
         delta: &mut [Change<R>],
     ) -> Result<Heard, Refusal>
-        requires { (length cells.old ≡ cell_limit) × (length delta.old ≡ field_limit) }
+        requires { (length cells.old ≡ cell_limit) × (delta.old ≡ replicate field_limit (held R.kind same)) }
         ensures { outcome self.new.entries cells.new delta.new result ≡ hear_effect R.kind self.old.entries cells.old (effect_of (tag_in says.entry) (arguments_in says.entry)) }
     {
         match says {
@@ -112,10 +112,7 @@ impl Viewer {
                 item: _,
                 values,
             } => self.update(id.value, values, cells, delta),
-            _ => {
-                blank(delta);
-                Ok(Heard::Taken)
-            }
+            _ => Ok(Heard::Taken),
         }
     }
 
@@ -134,12 +131,8 @@ impl Viewer {
         if cells.len() != CELL_LIMIT || delta.len() != FIELD_LIMIT {
             return Err(Refusal::MEMORY);
         }
-        match read_line(line) {
-            Ok(line) => self.obey(line.says, cells, delta),
-            Err(refusal) => {
-                blank(delta);
-                Err(refusal)
-            }
-        }
+        blank(delta);
+        let line = read_line(line)?;
+        self.obey(line.says, cells, delta)
     }
 }

@@ -8,9 +8,9 @@ ghost use Rattle.viewer.specs.Rows.{row_at, with_row, null_row};
 
 use row::{Cell, Change, FIELD_LIMIT, Value, change_row, nullify};
 
+// kept: a tap's cells do not stand in its entry, since they are lent, by the project's rule
 pub const CELL_LIMIT: usize = 96;
 
-// kept: cells stand apart from the entries, in memory that is lent
 // Makes a tap's row null.
 pub(crate) fn clear_row<R: Value>(cells: &mut [Cell<R>], i: usize)
     requires { (i < tap_limit) × (length cells.old ≡ cell_limit) }
@@ -26,5 +26,6 @@ pub(crate) fn update_row<R: Value>(cells: &mut [Cell<R>], i: usize, delta: &[Cha
     ensures { cells.new ≡ with_row i (over takes (row_at i cells.old) delta.now) cells.old }
 {
     let at = FIELD_LIMIT * i;
+    // both have the places of a row
     let _ = change_row(&mut cells[at..at + FIELD_LIMIT], delta);
 }
