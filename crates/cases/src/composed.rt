@@ -1,10 +1,12 @@
 // Requests, written by the viewer.
+use crate::refused::numbered;
 use compose::{Pair, RequestWriter, compose};
 use requests::{Name, Parameter};
 use row::Refusal;
 use std::process::Abort;
 use std::test::*;
 
+// A value of the longest length, and one of a byte more.
 const LONGEST: &[u8] = b"0123456789abcdef0123456789abcdef0123456789abcdef0123456789abcdef";
 
 const TOO_LONG: &[u8] = b"0123456789abcdef0123456789abcdef0123456789abcdef0123456789abcdef!";
@@ -26,9 +28,9 @@ fn check_bytes(
     Ok(())
 }
 
+// Refused with this number, and with place 0.
 fn check_fault(rt: &impl Abort, answer: Result<usize, Refusal>, number: u8) -> Result<(), Fail> {
-    let fault = answer.map_err(|refusal| (u8::from(refusal.fault), refusal.place));
-    assert_eq!(rt; fault, Err((number, 0)));
+    assert_eq!(rt; answer.map_err(numbered), Err((number, 0)));
     Ok(())
 }
 
@@ -143,6 +145,7 @@ fn pairs_between_refusals(rt: HostRuntime) -> Result<(), Fail> {
     )
 }
 
+// A request that is dropped before it is finished leaves only zeros.
 #[test]
 fn half_made(rt: HostRuntime) -> Result<(), Fail> {
     let mut out = [b'?'; 64];
@@ -167,6 +170,7 @@ fn login(out: &mut [u8], password: &[u8]) -> Result<usize, Refusal> {
     )
 }
 
+// A login that is refused leaves nothing of the one before.
 #[test]
 fn logins(rt: HostRuntime) -> Result<(), Fail> {
     let mut out = [b'?'; 70];

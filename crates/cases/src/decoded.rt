@@ -1,5 +1,5 @@
 // Texts with escapes, and the bytes that they stand for.
-use row::Fault;
+use crate::refused::numbered;
 use std::test::*;
 use tlcp::decode;
 
@@ -48,8 +48,8 @@ fn unsound(rt: HostRuntime) -> Result<(), Fail> {
     for (i, (text, place)) in table.iter().enumerate() {
         let mut out = [b'?'; ROOM];
         assert_eq!(rt;
-            decode(text, &mut out),
-            Err(Fault::Escape.at(*place)),
+            decode(text, &mut out).map_err(numbered),
+            Err((3, *place)),
             "text {i}"
         );
     }
@@ -61,6 +61,6 @@ fn unsound(rt: HostRuntime) -> Result<(), Fail> {
 fn too_much(rt: HostRuntime) -> Result<(), Fail> {
     let mut out = [b'?'; 2];
     assert_eq!(rt; decode(b"%61bc%64", &mut out), Ok(4));
-    assert!(rt; out == *b"ab");
+    assert_eq!(rt; out, *b"ab");
     Ok(())
 }

@@ -1,4 +1,5 @@
 // Lines that a viewer hears, and what comes of them.
+use crate::refused::{Numbered, numbered};
 use row::{Cell, Change, FIELD_LIMIT, TextRecord, whole_row};
 use std::process::Abort;
 use std::test::*;
@@ -6,8 +7,7 @@ use tlcp::{LINE_LIMIT, LIST_LIMIT, write_list};
 use viewer::Heard::{Passed, Taken};
 use viewer::{CELL_LIMIT, Heard, TAP_LIMIT, Viewer};
 
-// A refusal is its fault's number and its place.
-type Answer = Result<Heard, (u8, usize)>;
+type Answer = Result<Heard, Numbered>;
 
 // kept: the same memory as of `follow`'s listener, which is a program's own and answers by text
 #[derive(Drop)]
@@ -29,7 +29,7 @@ impl Listener {
     fn hear(&mut self, line: &[u8]) -> Answer {
         self.viewer
             .hear(line, &mut self.cells, &mut self.delta)
-            .map_err(|refusal| (u8::from(refusal.fault), refusal.place))
+            .map_err(numbered)
     }
 
     // Checks the first fields of a tap's row, written as a list.
@@ -94,9 +94,10 @@ fn documented(rt: HostRuntime) -> Result<(), Fail> {
     listener.check_row(&rt, 0, 3, b"Anduct|11:04:29|3.09")
 }
 
+// Lines about subscriptions that no entry fits, among others.
 #[test]
 fn passed(rt: HostRuntime) -> Result<(), Fail> {
-    let _ = hear_all(
+    hear_all(
         &rt,
         &[
             (b"U,1,1,a", Ok(Passed)),
@@ -164,6 +165,7 @@ fn refused(rt: HostRuntime) -> Result<(), Fail> {
     listener.check_row(&rt, 0, 3, b"#|#|#")
 }
 
+// Numbers, rows and values at their limits.
 #[test]
 fn edges(rt: HostRuntime) -> Result<(), Fail> {
     let listener = hear_all(
@@ -209,6 +211,7 @@ fn edges(rt: HostRuntime) -> Result<(), Fail> {
     listener.check_row(&rt, 6, 1, b"a#$^%2C")
 }
 
+// Lines of the longest length, and of one byte more.
 #[test]
 fn long_lines(rt: HostRuntime) -> Result<(), Fail> {
     let mut listener = Listener::new();

@@ -3,10 +3,17 @@ use row::{LogicRecord, TEXT_LIMIT, TextRecord, Value};
 use std::process::Abort;
 use std::test::*;
 
-type Words = (u32, u32, u8);
+fn logic(a: u32, b: u32, width: u8) -> LogicRecord {
+    LogicRecord { a, b, width }
+}
 
-fn words_of(text: &[u8]) -> Option<Words> {
-    <LogicRecord as Value>::read(text).map(|raw| (raw.a, raw.b, raw.width))
+fn read(text: &[u8]) -> Option<LogicRecord> {
+    <LogicRecord as Value>::read(text)
+}
+
+// The fields, to be compared: a record has no equality of its own.
+fn words(raw: LogicRecord) -> (u32, u32, u8) {
+    (raw.a, raw.b, raw.width)
 }
 
 // The record of a case is written as this text, with zeros behind it.
@@ -20,27 +27,26 @@ fn check_written<R: Value>(rt: &impl Abort, case: usize, raw: &R, text: &[u8]) -
 
 #[test]
 fn logic_texts(rt: HostRuntime) -> Result<(), Fail> {
-    let table: [(&[u8], Words); 9] = [
-        (b"0", (0, 0, 1)),
-        (b"1", (1, 0, 1)),
-        (b"x", (1, 1, 1)),
-        (b"z", (0, 1, 1)),
-        (b"01xz", (6, 3, 4)),
-        (b"zx10", (6, 12, 4)),
-        (b"00000001", (1, 0, 8)),
+    let table: [(&[u8], LogicRecord); 9] = [
+        (b"0", logic(0, 0, 1)),
+        (b"1", logic(1, 0, 1)),
+        (b"x", logic(1, 1, 1)),
+        (b"z", logic(0, 1, 1)),
+        (b"01xz", logic(6, 3, 4)),
+        (b"zx10", logic(6, 12, 4)),
+        (b"00000001", logic(1, 0, 8)),
         (
             b"10xz10xz10xz10xz10xz10xz10xz10xz",
-            (0xaaaa_aaaa, 0x3333_3333, 32),
+            logic(0xaaaa_aaaa, 0x3333_3333, 32),
         ),
         (
             b"xxxxxxxxxxxxxxxxxxxxxxxxxxxxxxxx",
-            (0xffff_ffff, 0xffff_ffff, 32),
+            logic(0xffff_ffff, 0xffff_ffff, 32),
         ),
     ];
-    for (i, (text, (a, b, width))) in table.iter().enumerate() {
-        let (a, b, width) = (*a, *b, *width);
-        assert_eq!(rt; words_of(text), Some((a, b, width)), "text {i}");
-        check_written(&rt, i, &LogicRecord { a, b, width }, text)?;
+    for (i, (text, raw)) in table.iter().enumerate() {
+        assert_eq!(rt; read(text).map(words), Some(words(*raw)), "text {i}");
+        check_written(&rt, i, raw, text)?;
     }
     Ok(())
 }
@@ -59,36 +65,31 @@ fn not_logic(rt: HostRuntime) -> Result<(), Fail> {
         b"000000000000000000000000000000000",
     ];
     for (i, text) in table.iter().enumerate() {
-        assert_eq!(rt; words_of(text), None, "text {i}");
+        assert!(rt; read(text).is_none(), "text {i}");
     }
     Ok(())
 }
 
-// A width of 0 or 33, or a bit at or above the width: all mean `0`.
+// A width of 0 or above 32, or a bit at or above the width: all mean `0`.
 #[test]
 fn unsound_logic(rt: HostRuntime) -> Result<(), Fail> {
-    let table: [Words; 8] = [
-        (0, 0, 0),
-        (1, 0, 0),
-        (0, 0, 33),
-        (1, 1, 255),
-        (2, 0, 1),
-        (0, 2, 1),
-        (0x8000_0000, 0, 31),
-        (0, 16, 4),
+    let table = [
+        logic(0, 0, 0),
+        logic(1, 0, 0),
+        logic(0, 0, 33),
+        logic(1, 1, 255),
+        logic(2, 0, 1),
+        logic(0, 2, 1),
+        logic(0x8000_0000, 0, 31),
+        logic(0, 16, 4),
     ];
-    for (i, (a, b, width)) in table.iter().enumerate() {
-        let raw = LogicRecord {
-            a: *a,
-            b: *b,
-            width: *width,
-        };
-        check_written(&rt, i, &raw, b"0")?;
+    for (i, raw) in table.iter().enumerate() {
+        check_written(&rt, i, raw, b"0")?;
     }
     Ok(())
 }
 
-// A length of 33, or a byte behind the length: both mean the empty text.
+// The longest text is sound. A length of 33, or a byte behind the length: both mean the empty text.
 #[test]
 fn unsound_text(rt: HostRuntime) -> Result<(), Fail> {
     let bytes = [b'a'; TEXT_LIMIT];

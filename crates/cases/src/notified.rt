@@ -1,4 +1,5 @@
 // Lines written, and read back.
+use crate::refused::number;
 use notify::{Message, write_line, write_update};
 use row::{Change, FIELD_LIMIT, Mark, TEXT_LIMIT, TextRecord};
 use std::process::Abort;
@@ -28,19 +29,20 @@ fn is_same(message: Message<'_>, says: Notification<'_>) -> bool {
         | (Message::Error(n, text), Notification::Error(code, part)) => {
             code.value == n && is_text(part, text)
         }
-        _ => is_same_named(message, says),
+        _ => is_same_of_subscription(message, says) || is_same_of_request(message, says),
     }
 }
 
-// The same of the messages whose arguments have names.
-fn is_same_named(message: Message<'_>, says: Notification<'_>) -> bool {
-    use Notification as Says;
+// The same where arguments have names and one is a subscription's ID.
+fn is_same_of_subscription(message: Message<'_>, says: Notification<'_>) -> bool {
     match (message, says) {
-        (Message::Eos { id: a }, Says::Eos { id, item }) => id.value == a && item.value == 1,
-        (Message::Subok { id: a, fields: b }, Says::Subok { id, items, fields }) => {
+        (Message::Eos { id: a }, Notification::Eos { id, item }) => {
+            id.value == a && item.value == 1
+        }
+        (Message::Subok { id: a, fields: b }, Notification::Subok { id, items, fields }) => {
             id.value == a && items.value == 1 && fields.value == b
         }
-        (Message::Ov { id: a, lost: b }, Says::Ov { id, item, lost }) => {
+        (Message::Ov { id: a, lost: b }, Notification::Ov { id, item, lost }) => {
             id.value == a && item.value == 1 && lost.value == b
         }
         (
@@ -49,19 +51,26 @@ fn is_same_named(message: Message<'_>, says: Notification<'_>) -> bool {
                 frequency: b,
                 filter: c,
             },
-            Says::Conf {
+            Notification::Conf {
                 id,
                 frequency,
                 filter,
             },
         ) => { id.value == a && is_text(frequency, b) && is_text(filter, c) }
+        _ => false,
+    }
+}
+
+// The same where arguments have names and none is such an ID.
+fn is_same_of_request(message: Message<'_>, says: Notification<'_>) -> bool {
+    match (message, says) {
         (
             Message::Reqerr {
                 request: a,
                 code: b,
                 message: c,
             },
-            Says::Reqerr {
+            Notification::Reqerr {
                 request,
                 code,
                 message,
@@ -74,7 +83,7 @@ fn is_same_named(message: Message<'_>, says: Notification<'_>) -> bool {
                 keepalive: c,
                 link: d,
             },
-            Says::Conok {
+            Notification::Conok {
                 session,
                 limit,
                 keepalive,
@@ -95,7 +104,7 @@ fn check_line(rt: &impl Abort, case: usize, message: Message<'_>, line: &[u8]) -
     Ok(())
 }
 
-// One message of every tag, by the rules of lines.
+// One message of every tag but U, and its line.
 #[test]
 fn lines(rt: HostRuntime) -> Result<(), Fail> {
     let table: [(Message<'_>, &[u8]); 17] = [
@@ -158,7 +167,7 @@ fn lines(rt: HostRuntime) -> Result<(), Fail> {
 fn fault_of(message: Message<'_>) -> Option<u8> {
     let mut out = [b'?'; LINE_LIMIT];
     let written = write_line(&mut out, 0, message);
-    written.err().map(|refusal| u8::from(refusal.fault))
+    written.err().map(number)
 }
 
 #[test]
@@ -249,8 +258,8 @@ fn places(rt: HostRuntime) -> Result<(), Fail> {
     for (at, end, bytes) in table.iter() {
         let mut out = [b'?'; 8];
         let written = write_line(&mut out, *at, Message::Probe);
-        assert_eq!(rt; written.map_err(|refusal| u8::from(refusal.fault)), *end);
-        assert!(rt; out.as_slice() == *bytes, "place {at}");
+        assert_eq!(rt; written.map_err(number), *end, "place {at}");
+        assert_eq!(rt; out.as_slice(), *bytes, "place {at}");
     }
     Ok(())
 }
@@ -268,7 +277,7 @@ const LONGEST: [Change<TextRecord>; FIELD_LIMIT] = [Change {
 fn update(out: &mut [u8], id: u32, changes: usize, fields: usize) -> Result<usize, u8> {
     let delta = LONGEST;
     let written = write_update(out, 0, id, &delta[..changes.min(FIELD_LIMIT)], fields);
-    written.map_err(|refusal| u8::from(refusal.fault))
+    written.map_err(number)
 }
 
 #[test]
@@ -286,8 +295,9 @@ fn updates(rt: HostRuntime) -> Result<(), Fail> {
     ];
     for (i, (id, changes, fields, answer)) in table.iter().enumerate() {
         let mut out = [b'?'; LINE_LIMIT];
-        assert!(rt;
-            update(&mut out, *id, *changes, *fields) == *answer,
+        assert_eq!(rt;
+            update(&mut out, *id, *changes, *fields),
+            *answer,
             "update {i}"
         );
     }
@@ -297,9 +307,9 @@ fn updates(rt: HostRuntime) -> Result<(), Fail> {
 #[test]
 fn longest_update(rt: HostRuntime) -> Result<(), Fail> {
     let mut small = [b'?'; LINE_LIMIT - 1];
-    assert!(rt; update(&mut small, 9999, 12, 12) == Err(16));
+    assert_eq!(rt; update(&mut small, 9999, 12, 12), Err(16));
     let mut out = [b'?'; LINE_LIMIT];
-    assert!(rt; update(&mut out, 9999, 12, 12) == Ok(LINE_LIMIT));
+    assert_eq!(rt; update(&mut out, 9999, 12, 12), Ok(LINE_LIMIT));
     assert!(rt; out.starts_with(b"U,9999,1,%FF%FF"));
     assert!(rt;
         out.ends_with(
@@ -312,6 +322,7 @@ fn longest_update(rt: HostRuntime) -> Result<(), Fail> {
 // An update is read as such, its list at its place.
 #[test]
 fn update_read_back(rt: HostRuntime) -> Result<(), Fail> {
+    // what the records of same and null fields hold is not looked at
     let same = Change {
         mark: Mark::Same,
         raw: LONGEST[0].raw,
@@ -326,6 +337,6 @@ fn update_read_back(rt: HostRuntime) -> Result<(), Fail> {
         return Err(Fail::new("another message"));
     };
     assert_eq!(rt; (id.value, item.value, values.at), (70, 1, 7));
-    assert!(rt; values.bytes == b"|#|^6".as_slice());
+    assert_eq!(rt; values.bytes, b"|#|^6".as_slice());
     Ok(())
 }

@@ -1,10 +1,12 @@
 // Requests, as they are read in the session with the number 1.
+use crate::refused::{Numbered, numbered};
 use Asked::{Add, Bind, Create, Delete, Rebind};
 use requests::{REQUEST_LIMIT, Request, read_request};
 use std::process::Abort;
 use std::test::*;
 
-// An operation on a subscription has its ID.
+// What a request asks for. An operation on a subscription has its ID.
+// kept: a `Request` has no equality, and its words are bounded bytes; a table would have them as slices
 #[derive(Clone, Copy, PartialEq, Debug)]
 enum Asked {
     Create,
@@ -14,8 +16,7 @@ enum Asked {
     Rebind,
 }
 
-// A refusal has its fault's number and its place.
-type Answer = Result<Asked, (u8, usize)>;
+type Answer = Result<Asked, Numbered>;
 
 fn read(text: &[u8]) -> Answer {
     match read_request(text, 1) {
@@ -24,7 +25,7 @@ fn read(text: &[u8]) -> Answer {
         Ok(Request::Add { subscription, .. }) => Ok(Add(subscription)),
         Ok(Request::Delete { subscription, .. }) => Ok(Delete(subscription)),
         Ok(Request::ForceRebind { .. }) => Ok(Rebind),
-        Err(refusal) => Err((u8::from(refusal.fault), refusal.place)),
+        Err(refusal) => Err(numbered(refusal)),
     }
 }
 
@@ -103,7 +104,7 @@ fn shapes(rt: HostRuntime) -> Result<(), Fail> {
     )
 }
 
-// What is missing, and what is too much.
+// What is missing, what is too much, and a value that is no operation, not the session, or empty.
 #[test]
 fn parameters(rt: HostRuntime) -> Result<(), Fail> {
     read_all(
@@ -198,14 +199,14 @@ fn values(rt: HostRuntime) -> Result<(), Fail> {
     )
 }
 
-// A request of the longest length is read, and one byte more is too long.
+// What is too long: the request itself, or its value. The longest value is read.
 #[test]
 fn lengths(rt: HostRuntime) -> Result<(), Fail> {
     let mut text = [b'a'; REQUEST_LIMIT + 1];
     text[..23].copy_from_slice(b"create_session\r\nLS_cid=");
     assert_eq!(rt; read(&text), Err((16, 0)));
-    assert_eq!(rt; read(&text[0..REQUEST_LIMIT]), Err((16, 0)));
-    assert_eq!(rt; read(&text[0..23 + 64]), Ok(Create));
-    assert_eq!(rt; read(&text[0..23 + 65]), Err((16, 0)));
+    assert_eq!(rt; read(&text[..REQUEST_LIMIT]), Err((16, 0)));
+    assert_eq!(rt; read(&text[..23 + 64]), Ok(Create));
+    assert_eq!(rt; read(&text[..23 + 65]), Err((16, 0)));
     Ok(())
 }

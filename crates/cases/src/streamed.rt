@@ -35,7 +35,7 @@ const OUTPUT: &[u8] = b"1 ab\n2 c\n3 \n4 sevent\n5 last\r\n.";
 
 // The input, cut in several ways.
 const CUTS: [&[&[u8]]; 4] = [
-    &[b"ab\r\nc\n\nseventh\r\nlast\r"],
+    &[INPUT],
     &[b"ab\r", b"\nc\n\nseven", b"th\r\nlast\r"],
     &[
         b"a",
@@ -58,7 +58,7 @@ fn streamed_in_blocks(rt: HostRuntime) -> Result<(), Fail> {
             stream.feed(block, &mut out)?;
         }
         stream.finish(&mut out)?;
-        assert!(rt; out.as_slice() == OUTPUT, "cut {i}");
+        assert_eq!(rt; out.as_slice(), OUTPUT, "cut {i}");
     }
     Ok(())
 }
@@ -68,6 +68,6 @@ fn streamed_from_a_reader(rt: HostRuntime) -> Result<(), Fail> {
     let mut input = INPUT;
     let mut output = Vec::new(rt.alloc());
     answer_all(&rt, Echo, &mut input, &mut output)?;
-    assert!(rt; output.as_slice() == OUTPUT);
+    assert_eq!(rt; output.as_slice(), OUTPUT);
     Ok(())
 }

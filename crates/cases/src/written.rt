@@ -1,4 +1,5 @@
 // Value lists, written and read back.
+use crate::refused::number;
 use row::{Change, FIELD_LIMIT, Mark, TEXT_LIMIT, TextRecord, Value};
 use std::process::Abort;
 use std::test::*;
@@ -39,7 +40,7 @@ fn says(change: &Change<TextRecord>, mark: Mark, text: &[u8]) -> bool {
     change.mark == mark && len == text.len() && bytes.starts_with(text)
 }
 
-// The list of so many fields of a row, or the number of the fault.
+// Checks the list of so many fields of a row, or the number of its refusal.
 fn check_list(
     rt: &impl Abort,
     row: &Row,
@@ -48,7 +49,7 @@ fn check_list(
 ) -> Result<(), Fail> {
     let mut out = [b'?'; LIST_LIMIT];
     let written = write_list(&mut out, 0, &delta_of(row), fields);
-    let len = written.map_err(|refusal| u8::from(refusal.fault));
+    let len = written.map_err(number);
     assert_eq!(rt; len, list.map(|list| list.len()), "{fields} fields");
     assert!(rt; out.starts_with(list.unwrap_or(b"")), "{fields} fields");
     Ok(())
@@ -81,7 +82,7 @@ fn lists(rt: HostRuntime) -> Result<(), Fail> {
 
 #[test]
 fn read_back(rt: HostRuntime) -> Result<(), Fail> {
-    let mut delta: [Change<TextRecord>; FIELD_LIMIT] = [Change::same(); FIELD_LIMIT];
+    let mut delta = [Change::same(); FIELD_LIMIT];
     assert!(rt; read_list(b"%23|a#|#|$|^4|%2C%FF|||", FIELD_LIMIT, &mut delta).is_ok());
     for (i, (change, (mark, text))) in delta.iter().zip(MIXED.iter()).enumerate() {
         assert!(rt; says(change, *mark, text), "field {i}");
