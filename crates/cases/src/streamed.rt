@@ -1,9 +1,10 @@
 // A stream of lines, cut into blocks, and answered from a reader to a writer.
 ghost use Rattle.std.specs.Prelude.{ℕ, [], ◌∷◌};
 
+use row::Fault;
 use std::alloc::AllocError;
 use std::test::*;
-use streams::{Hear, Stream, answer_all};
+use streams::{Hear, Stream, answer_all, hold, push_refusal};
 
 // Repeats each line.
 #[derive(Drop)]
@@ -69,5 +70,15 @@ fn streamed_from_a_reader(rt: HostRuntime) -> Result<(), Fail> {
     let mut output = Vec::new(rt.alloc());
     answer_all(&rt, Echo, &mut input, &mut output)?;
     assert_eq!(rt; output.as_slice(), OUTPUT);
+    Ok(())
+}
+
+#[test]
+fn refusals_and_held_bytes(rt: HostRuntime) -> Result<(), Fail> {
+    let mut out = Vec::new(rt.alloc());
+    push_refusal(&mut out, Fault::Cover.at(6))?;
+    assert_eq!(rt; out.as_slice(), b" no 7 6");
+    hold(&mut out, b", it is", 9)?;
+    assert_eq!(rt; out.as_slice(), b" no 7 6, ");
     Ok(())
 }

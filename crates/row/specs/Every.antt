@@ -1,24 +1,27 @@
 -- A test at each element of a list, and a list with zeros behind it.
-use Rattle.std.specs.Prelude.{◌≡◌, ℕ, suc, ◌+◌, ◌-◌, ◌<◌, ◌≤◌, Bool, true, false, cond, List, [], ◌∷◌, ◌++◌, length, take, drop, set, replicate, Some, None, ◌==◌, nat_le, slice_index, slice_set, refl}
-use Rattle.std.proofs.Common.{sym, ap, ◌∙◌, append_assoc, arith}
+use Rattle.std.specs.Prelude.{◌≡◌, ℕ, zero, suc, ◌+◌, ◌-◌, ◌<◌, ◌≤◌, Bool, true, false, cond, List, [], ◌∷◌, ◌++◌, length, take, drop, set, replicate, Some, None, ◌==◌, ◌≢◌, nat_le, slice_index, slice_index_or, slice_set, refl}
+use Rattle.std.proofs.Common.{sym, ap, ◌∙◌, ⊎_elim, append_assoc, le_of_suc-le-suc, not-suc-le-zero, arith}
 use Rattle.std.specs.List.{AllByRecursion}
-use Rattle.std.proofs.lemmas.List.{length-drop, length-take, take-append-drop, take_more, drop_at, set_at, length-take-le, take_at}
+use Rattle.std.proofs.lemmas.List.{get_or-drop, length-append, length-drop, length-take, take-append-drop, take_more, drop_all, drop-append-le, drop_at, set_at, length-take-le, take_at}
 use Rattle.std.proofs.ByRecursion.{All-weaker, Decides-by_and}
 use Rattle.std.proofs.lemmas.List.Folds.{list_all-append}
 use Rattle.std.proofs.lemmas.List.Recursion.{and_from_places}
 use Rattle.std.proofs.lemmas.Grind.{common_steps}
 use Rattle.std.proofs.lemmas.List.Sums.{list_all-from_AllPass}
 use Rattle.std.proofs.lemmas.Option.{cond_some, none-some}
-use Rattle.std.proofs.lemmas.Bool.{lt-ltb, and_parts, and_from, ltb-true, leb-true, eqb-true, le-leb, eq-eqb, cond-true, cond-false, cond_both}
+use Rattle.std.proofs.lemmas.Bool.{lt-ltb, both_ways, cases_lt, cases_Bool, and_parts, and_from, ltb-true, leb-true, eqb-true, le-leb, eq-eqb, cond-true, cond-false, cond_both}
 use Rattle.row.specs.Texts.{every, is_byte, is_zero, padded, text_allowed, text_sound, text_whole, text_of, text_record, text_kind}
 use Rattle.row.specs.Limits.{text_limit}
 use Rattle.row.specs.Kinds.{Kind, Lawful, Represents}
 use Rattle.row.specs.declared.text.TextRecord.{TextRecord}
 
-every_take : (p : ℕ → Bool) (n : ℕ) (xs : List ℕ) → every p xs ≡ true → every p (take n xs) ≡ true
+pub every_append : (p : ℕ → Bool) (xs ys : List ℕ) → every p xs ≡ true → every p ys ≡ true → every p (xs ++ ys) ≡ true
+every_append p xs ys e f = list_all-append p xs ys ∙ and_from _ _ e f
+
+pub every_take : (p : ℕ → Bool) (n : ℕ) (xs : List ℕ) → every p xs ≡ true → every p (take n xs) ≡ true
 every_take p n xs e = (and_parts _ _ (sym (list_all-append p (take n xs) (drop n xs)) ∙ ap (every p) (take-append-drop n xs) ∙ e)).0
 
-every-replicate : (p : ℕ → Bool) (n x : ℕ) → p x ≡ true → every p (replicate n x) ≡ true
+pub every-replicate : (p : ℕ → Bool) (n x : ℕ) → p x ≡ true → every p (replicate n x) ≡ true
 every-replicate p n x e = grind (arith, common_steps, list_all-from_AllPass p (replicate n x))
 
 pub every-all : (p : ℕ → Bool) (P : ℕ → Type 0) → ((x : ℕ) → p x ≡ true → P x) → (t : List ℕ) → every p t ≡ true → AllByRecursion P t
@@ -33,13 +36,13 @@ all-bytes = every-all is_byte (λ b. b < 256) (λ b. ltb-true b 256)
 pub length-padded : (n : ℕ) (xs : List ℕ) → length xs ≤ n → length (padded n xs) ≡ n
 length-padded n xs h = grind (arith, common_steps)
 
-drop-padded : (n : ℕ) (xs : List ℕ) → drop (length xs) (padded n xs) ≡ replicate (n - length xs) 0
+pub drop-padded : (n : ℕ) (xs : List ℕ) → drop (length xs) (padded n xs) ≡ replicate (n - length xs) 0
 drop-padded n xs = drop_at xs (replicate (n - length xs) 0) (length xs) refl
 
-take-padded : (n : ℕ) (xs : List ℕ) → take (length xs) (padded n xs) ≡ xs
+pub take-padded : (n : ℕ) (xs : List ℕ) → take (length xs) (padded n xs) ≡ xs
 take-padded n xs = take_at xs (replicate (n - length xs) 0) (length xs) refl
 
-every-padded : (n : ℕ) (xs : List ℕ) → every is_byte xs ≡ true → every is_byte (padded n xs) ≡ true
+pub every-padded : (n : ℕ) (xs : List ℕ) → every is_byte xs ≡ true → every is_byte (padded n xs) ≡ true
 every-padded n xs e = list_all-append is_byte xs (replicate (n - length xs) 0) ∙ and_from _ _ e (every-replicate is_byte (n - length xs) 0 refl)
 
 -- one element more before the zeros
@@ -61,6 +64,42 @@ pub sound-from : (r : TextRecord) → r.len ≤ text_limit → ((i : ℕ) → sl
 sound-from r small bytes zeros =
     and_from _ _ (le-leb r.len text_limit small) (and_from _ _ (bytes-every r.bytes bytes) zeros)
 
+pub every_more : (p : ℕ → Bool) (xs : List ℕ) (i x : ℕ) → i < length xs → x ≡ slice_index xs i → every p (take i xs) ≡ true → p x ≡ true → every p (take (i + 1) xs) ≡ true
+every_more p xs i x h read e f =
+    ap (every p) (take_more xs i 0 h) ∙ every_append p (take i xs) (slice_index xs i ∷ []) e (and_from _ true (ap p (sym read) ∙ f) refl)
+
+pub every-at : (p : ℕ → Bool) (xs : List ℕ) (i d : ℕ) → i < length xs → every p xs ≡ true → p (slice_index_or xs i d) ≡ true
+every-at p [] i d h e = absurd (not-suc-le-zero h)
+every-at p (x ∷ xs) zero d h e = (and_parts (p x) (every p xs) e).0
+every-at p (x ∷ xs) (suc i) d h e = every-at p xs i d (le_of_suc-le-suc h) (and_parts (p x) (every p xs) e).1
+
+pub every-not : (p : ℕ → Bool) (xs : List ℕ) (i d : ℕ) → i < length xs → p (slice_index_or xs i d) ≡ false → every p xs ≡ false
+every-not p xs i d h e =
+    ⊎_elim (λ all. absurd (both_ways (p (slice_index_or xs i d)) e (every-at p xs i d h all))) (λ f. f) (cases_Bool (every p xs))
+
+pub every-from-more : (p : ℕ → Bool) (xs : List ℕ) (n i x : ℕ) → i < length xs → x ≡ slice_index xs i → every p (drop n (take i xs)) ≡ true → (n ≤ i → p x ≡ true) → every p (drop n (take (i + 1) xs)) ≡ true
+every-from-more p xs n i x h read e f =
+    let long : length (take i xs) ≡ i = length-take-le i xs (omega arith) in
+    ap (λ l. every p (drop n l)) (take_more xs i 0 h)
+    ∙ ⊎_elim
+    (λ below.
+    ap (every p) (drop_all n (take i xs ++ slice_index xs i ∷ []) (let l = length-append (take i xs) (slice_index xs i ∷ []) in omega arith)))
+    (λ above.
+    ap (every p) (drop-append-le n (take i xs) (slice_index xs i ∷ []) (omega arith))
+    ∙ every_append p (drop n (take i xs)) (slice_index xs i ∷ []) e (and_from _ true (ap p (sym read) ∙ f above) refl))
+    (cases_lt i n)
+
+pub zero-behind : (r : TextRecord) (i : ℕ) → i < length r.bytes → r.len ≤ i → text_sound r ≡ true → slice_index r.bytes i ≡ 0
+zero-behind r i h above e =
+    let zeros = (and_parts (every is_byte r.bytes) (every is_zero (drop r.len r.bytes)) (and_parts (nat_le r.len text_limit) _ e).1).1 in
+    let k : r.len + (i - r.len) ≡ i = omega arith in
+    let inside : i - r.len < length (drop r.len r.bytes) = simp length-drop (omega arith) in
+    let here = eqb-true (slice_index (drop r.len r.bytes) (i - r.len)) 0 (every-at is_zero (drop r.len r.bytes) (i - r.len) 0 inside zeros) in
+    ap (λ j. slice_index r.bytes j) (sym k) ∙ sym (get_or-drop r.len r.bytes (i - r.len) 0) ∙ here
+
+pub not_sound : (r : TextRecord) (i : ℕ) → i < length r.bytes → r.len ≤ i → (slice_index r.bytes i ≢ 0) → text_sound r ≡ false
+not_sound r i h above ne = ⊎_elim (λ e. absurd (ne (zero-behind r i h above e))) (λ e. e) (cases_Bool (text_sound r))
+
 pub allowed-from : (t : List ℕ) → length t ≤ 32 → every is_byte t ≡ true → text_allowed t ≡ true
 allowed-from t small e = and_from _ _ (le-leb (length t) 32 small) e
 
@@ -70,7 +109,7 @@ record-sound t e =
     and_from _ _ h.0 (and_from _ _ (every-padded 32 t h.1) (ap (every is_zero) (drop-padded 32 t) ∙ every-replicate is_zero (32 - length t) 0 refl))
 
 -- a list that is zero from n on is its front with zeros behind it
-padded-front : (n m : ℕ) (xs : List ℕ) → n ≤ m → length xs ≡ m → every is_zero (drop n xs) ≡ true → xs ≡ padded m (take n xs)
+pub padded-front : (n m : ℕ) (xs : List ℕ) → n ≤ m → length xs ≡ m → every is_zero (drop n xs) ≡ true → xs ≡ padded m (take n xs)
 padded-front n m xs small long e =
     let front : length (take n xs) ≡ n = length-take-le n xs (omega arith) in
     sym (take-append-drop n xs)
@@ -94,7 +133,7 @@ text-lawful = record {
   where
     allowed-take : (r : TextRecord) → text_sound r ≡ true → text_allowed (take r.len r.bytes) ≡ true
     allowed-take r e =
-        let h = and_parts (nat_le r.len 32) _ e in
+        let h = and_parts (nat_le r.len text_limit) _ e in
         let small = leb-true r.len 32 h.0 in
         let all = (and_parts (every is_byte r.bytes) (every is_zero (drop r.len r.bytes)) h.1).0 in
         allowed-from (take r.len r.bytes) (simp length-take (omega arith)) (every_take is_byte r.len r.bytes all)

@@ -7,13 +7,13 @@ use Rattle.std.proofs.lemmas.List.{length-map, length-take, map_more, take_all}
 use Rattle.std.proofs.lemmas.Int.Digits.{number_lt, number_push}
 use Rattle.std.proofs.lemmas.Bool.Decides.{nat_tests}
 use Rattle.std.proofs.lemmas.Nat.{pow_pos, mod-pow-add, mod_below, div-mul-add, mod-mul-add}
-use Rattle.std.proofs.lemmas.Bool.{and_parts, and_from, or_cases, ltb-true, leb-true, eqb-true, lt-ltb, le-leb, cond-true, cond-false, cond_both}
+use Rattle.std.proofs.lemmas.Bool.{and_parts, and_from, and_right, or_cases, ltb-true, leb-true, eqb-true, lt-ltb, le-leb, cond-true, cond-false, cond_both}
 use Rattle.row.specs.Limits.{text_limit}
 use Rattle.row.specs.Kinds.{Lawful, Represents}
 use Rattle.row.specs.Texts.{every, padded}
 use Rattle.row.specs.Logics.{low, high, unknown, floating, is_logic, bit_a, bit_b, char_of, bit_at, chars_of, is_width, logic_allowed, logic_sound, logic_text, logic_record, logic_kind}
 use Rattle.row.specs.declared.logic.LogicRecord.{LogicRecord}
-use Rattle.row.specs.Every.{every-all, padded-more, apart_from}
+use Rattle.row.specs.Every.{every-all, every-not, padded-more, apart_from}
 
 -- one character
 
@@ -58,7 +58,7 @@ mod-bits : (n w : ℕ) → n % 2 ^ suc w ≡ bit_at n w * 2 ^ w + n % 2 ^ w
 mod-bits n w = ap (λ k. n % 2 ^ k) (sym (one-add w)) ∙ mod-pow-add n 1 w
 
 module _ (bit : ℕ → ℕ) (small : (c : ℕ) → bit c < 2) where
-  word_lt : (t : List ℕ) → number_from_digits 2 (map bit t) < 2 ^ length t
+  pub word_lt : (t : List ℕ) → number_from_digits 2 (map bit t) < 2 ^ length t
   word_lt t = omega (arith, number_lt 2 (map bit t) (under t), ap (λ k. 2 ^ k) (length-map t bit))
     where
       under : (t : List ℕ) → AllBelowBase 2 (map bit t)
@@ -100,11 +100,11 @@ chars-words (c ∷ t) a b e f g =
     (λ i. first i ∷ others i)
 
 module _ (a b : ℕ) where
-  length-chars_of : (w : ℕ) → length (chars_of w a b) ≡ w
+  pub length-chars_of : (w : ℕ) → length (chars_of w a b) ≡ w
   length-chars_of zero = refl
   length-chars_of (suc w) = ap suc (length-chars_of w)
 
-  get_d-chars_of : (w i : ℕ) → i < w → slice_index (chars_of w a b) i ≡ char_of (bit_at a (w - 1 - i)) (bit_at b (w - 1 - i))
+  pub get_d-chars_of : (w i : ℕ) → i < w → slice_index (chars_of w a b) i ≡ char_of (bit_at a (w - 1 - i)) (bit_at b (w - 1 - i))
   get_d-chars_of zero i h = absurd (not-suc-le-zero h)
   get_d-chars_of (suc w) zero h = ap (λ p. char_of (bit_at a p) (bit_at b p)) (omega arith)
   get_d-chars_of (suc w) (suc i) h = get_d-chars_of w i (le_of_suc-le-suc h) ∙ ap (λ p. char_of (bit_at a p) (bit_at b p)) (omega arith)
@@ -141,6 +141,9 @@ sound-parts r e =
     let h = and_parts (is_width r.width) _ e in
     let k = and_parts (nat_lt r.a (2 ^ r.width)) (nat_lt r.b (2 ^ r.width)) h.1 in
     (h.0, ltb-true r.a (2 ^ r.width) k.0, ltb-true r.b (2 ^ r.width) k.1)
+
+pub not-allowed : (t : List ℕ) (i : ℕ) → i < length t → is_logic (slice_index t i) ≡ false → logic_allowed t ≡ false
+not-allowed t i h e = and_right (is_width (length t)) (every is_logic t) (every-not is_logic t i 0 h e)
 
 pub allowed-from : (t : List ℕ) → 1 ≤ length t → length t ≤ text_limit → every is_logic t ≡ true → logic_allowed t ≡ true
 allowed-from t some short e = and_from _ _ (and_from _ _ (le-leb 1 (length t) some) (le-leb (length t) text_limit short)) e

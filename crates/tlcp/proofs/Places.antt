@@ -2,6 +2,7 @@
 use Rattle.std.proofs.Common.{◌≡◌, ℕ, suc, ◌+◌, ◌-◌, ◌<◌, ◌≤◌, cond, ltb, List, length, take, drop, Some, None, sym, refl, ap, ◌∙◌, arith, ◌==◌}
 use Rattle.std.specs.List.{position, position_or_len}
 use Rattle.std.proofs.lemmas.List.{take_rest, take_all, length-take-le, length-drop}
+use Rattle.std.proofs.lemmas.List.Sums.{prefix_len-le-length}
 use Rattle.std.proofs.lemmas.List.Recursion.{is_position_or_len}
 use Rattle.std.proofs.lemmas.Bool.{lt-ltb, le-ltb, ltb-true, ltb-false, cond-true, cond-false}
 use Rattle.std.proofs.lemmas.Option.{cond_some}
@@ -10,6 +11,9 @@ use Rattle.tlcp.specs.Parts.{place_of, before, behind}
 
 pub place-is : (b : ℕ) (s : List ℕ) → place_of b s ≡ position_or_len (λ x. x == b) s
 place-is b s = is_position_or_len (place_of b) (λ x. x == b) refl (λ x xs. let k : suc (place_of b xs) ≡ 1 + place_of b xs = omega arith in ap (cond (x == b) 0) k) s
+
+pub place-within : (b : ℕ) (s : List ℕ) → place_of b s ≤ length s
+place-within b s = rw (place-is b s) (prefix_len-le-length _ s)
 
 -- what the library's search answers
 pub found-at : (b : ℕ) (s : List ℕ) (e : ℕ) → Some e ≡ position (λ x. x == b) s → (e ≡ place_of b s) × (e < length s)
