@@ -1,4 +1,4 @@
-pub mod Spread
+pub mod Taking
 pub mod Least
 pub mod Fitting
 pub mod Pairing

@@ -118,10 +118,11 @@ pub(crate) fn read_pairs(body: Part<'_>, name: Name) -> Result<Pairs, Refusal>
     ensures { on_ok pairs_in result ≡ read_pairs name body.entry.at (divided_by 38 body.entry.bytes.now) no_pairs }
 {
     let mut pairs = Pairs::NONE;
-    let mut at = body.at;
-    for bytes in body.bytes.split(|b| *b == b'&') {
-        pairs.add(name, Part { bytes, at })?;
-        at += bytes.len() + 1;
+    let mut left = Some(body);
+    while let Some(part) = left {
+        let (pair, rest) = part.cut(b'&');
+        pairs.add(name, pair)?;
+        left = rest;
     }
     Ok(pairs)
 }

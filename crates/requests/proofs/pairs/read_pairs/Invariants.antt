@@ -1,15 +1,15 @@
-use Rattle.std.proofs.Common.{◌≡◌, ◌+◌, drop, length}
+use Rattle.std.proofs.Common.{◌≡◌}
+use Rattle.std.specs.Option.{option_map}
 use Rattle.tlcp.specs.Dividing.{divided_by}
+use Rattle.tlcp.specs.Said.{piece_in}
 use Rattle.requests.specs.Read.{pairs_in}
 use Rattle.requests.specs.Requests.{no_pairs, read_pairs}
-use Rattle.requests.proofs.Spread.{spread}
+use Rattle.requests.proofs.Taking.{remaining, taken}
 use Rattle.requests.proofs.pairs.read_pairs.Given as goal
 
--- the pieces that are left decide, and end where the text does
-abbrev pub invariant-loop-bytes : goal.invariant-loop-bytes
-invariant-loop-bytes l = record {
-  next : goal.iterator-loop-bytes.can_next l.bytes-iterator;
-  finite : goal.iterator-loop-bytes.is_finite l.bytes-iterator;
-  reads : read_pairs l.name l.body.at (divided_by 38 l.body.bytes.now) no_pairs ≡ read_pairs l.name l.at (drop (length l.yielded) (divided_by 38 l.body.bytes.now)) (pairs_in l.pairs);
-  ends : l.at + spread (drop (length l.yielded) (divided_by 38 l.body.bytes.now)) ≡ l.body.at + length l.body.bytes.now + 1;
-}
+-- the pairs that are left decide
+abbrev pub invariant-loop-left : goal.invariant-loop-left
+invariant-loop-left l = read_pairs l.name l.body.at (divided_by 38 l.body.bytes.now) no_pairs ≡ taken l.name (option_map piece_in l.left) (pairs_in l.pairs)
+
+abbrev pub decreases-loop-left : goal.decreases-loop-left
+decreases-loop-left l = remaining (option_map piece_in l.left)
