@@ -2,3 +2,4 @@ pub mod Spellings
 pub mod Anewed
 pub mod Checks
 pub mod Sames
+pub mod Adding

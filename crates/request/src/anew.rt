@@ -7,7 +7,7 @@ ghost use Rattle.requests.specs.Requests.{add, bind, create, delete, rebind};
 ghost use Rattle.request.specs.Anew.{Anew};
 
 use crate::numbered::numbered;
-use compose::{Pair, compose};
+use compose::{Pair, RequestWriter, compose};
 use requests::{Name, Parameter, Request, Word};
 use row::Refusal;
 
@@ -22,23 +22,16 @@ fn create_anew(
 ) -> Result<usize, Refusal>
     ensures { (session : ℕ) → Anew session (create (word_text cid) (option_map word_text user) (option_map word_text password)) out.old result out.new }
 {
-    let cid = Pair::new(Parameter::Cid, cid.text());
-    let hidden = Pair::new(Parameter::Password, REDACTED);
-    // kept: a list with parts left out wants a heap, or as an ArrayVec a pair that stands for none
-    match (user, password) {
-        (None, None) => compose(out, Name::CreateSession, &[cid]),
-        (None, Some(_)) => compose(out, Name::CreateSession, &[cid, hidden]),
-        (Some(user), None) => compose(
-            out,
-            Name::CreateSession,
-            &[cid, Pair::new(Parameter::User, user.text())],
-        ),
-        (Some(user), Some(_)) => compose(
-            out,
-            Name::CreateSession,
-            &[cid, Pair::new(Parameter::User, user.text()), hidden],
-        ),
+    let mut request = RequestWriter::new(out, Name::CreateSession);
+    request.begin()?;
+    request.add(Parameter::Cid, cid.text())?;
+    if let Some(user) = user {
+        request.add(Parameter::User, user.text())?;
     }
+    if password.is_some() {
+        request.add(Parameter::Password, REDACTED)?;
+    }
+    Ok(request.finish().len)
 }
 
 fn bind_anew(out: &mut [u8], session: u32) -> Result<usize, Refusal>
