@@ -77,8 +77,8 @@ fn streamed_from_a_reader(rt: HostRuntime) -> Result<(), Fail> {
 fn refusals_and_held_bytes(rt: HostRuntime) -> Result<(), Fail> {
     let mut out = Vec::new(rt.alloc());
     push_refusal(&mut out, Fault::Cover.at(6))?;
-    assert_eq!(rt; out.as_slice(), b" no 7 6");
+    assert_eq!(rt; out.as_slice(), b" no 7 6".as_slice());
     hold(&mut out, b", it is", 9)?;
-    assert_eq!(rt; out.as_slice(), b" no 7 6, ");
+    assert_eq!(rt; out.as_slice(), b" no 7 6, ".as_slice());
     Ok(())
 }
