@@ -115,31 +115,34 @@ impl<R: Value> Change<R> {
 trait Step<By>: Copy {
     ghost after: { Self → By → Self };
 
-    fn after(self, by: By) -> Self
-        ensures { result ≡ after self by };
+    fn step(&mut self, by: &By)
+        ensures { self.new ≡ after self.old by.now };
 }
 
 impl<R: Copy> Step<Change<R>> for Cell<R> {
     ghost after = { takes };
 
-    fn after(self, by: Change<R>) -> Cell<R> {
-        self.changed_by(by)
+    // most changes are same, and need no copy
+    fn step(&mut self, by: &Change<R>) {
+        if !by.is_same() {
+            *self = self.changed_by(*by);
+        }
     }
 }
 
 impl<R: Copy> Step<Change<R>> for Change<R> {
     ghost after = { later };
 
-    fn after(self, by: Change<R>) -> Change<R> {
-        self.then(by)
+    fn step(&mut self, by: &Change<R>) {
+        *self = self.then(*by);
     }
 }
 
 impl<R: Copy> Step<Cell<R>> for Change<R> {
     ghost after = { λ _ c. wholly c };
 
-    fn after(self, by: Cell<R>) -> Change<R> {
-        by.into()
+    fn step(&mut self, by: &Cell<R>) {
+        *self = (*by).into();
     }
 }
 
@@ -153,7 +156,7 @@ fn step_all<X: Step<By>, By: Copy>(places: &mut [X], by: &[By]) -> Result<(), Re
     }
     // kept: with `iter_mut().zip(by)` nothing is known of the elements
     for (i, place) in places.iter_mut().enumerate() {
-        *place = place.after(by[i]);
+        place.step(&by[i]);
     }
     Ok(())
 }
