@@ -9,7 +9,7 @@ use viewer::{CELL_LIMIT, Heard, TAP_LIMIT, Viewer};
 
 type Answer = Result<Heard, Numbered>;
 
-// kept: the same memory as of `follow`'s listener, which is a program's own and answers by text
+// kept: the same memory as of `follow`'s listener; one in `viewer` would be a second way to hold what is lent to it
 #[derive(Drop)]
 struct Listener {
     viewer: Viewer,

@@ -6,7 +6,7 @@ use std::process::Abort;
 use std::test::*;
 
 // What a request asks for. An operation on a subscription has its ID.
-// kept: a `Request` has no equality, and its words are bounded bytes; a table would have them as slices
+// kept: a derived equality of `Request` would compare the bytes behind its words too; a table has words as slices
 #[derive(Clone, Copy, PartialEq, Debug)]
 enum Asked {
     Create,

@@ -25,6 +25,7 @@ impl Worded for Kind {
 
 impl Kind {
     // The kind that a word stands for.
+    // kept: an Option says all there is; TryFrom would want an error that says no more
     pub fn named(word: &str) -> Option<Kind>
         ensures { result ≡ kind_named word.now }
     {

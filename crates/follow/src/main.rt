@@ -22,7 +22,7 @@ use streams::answer_all;
 const USAGE: &str = "the kind of value is text or logic";
 
 // The kind that the program's arguments name, behind its own name: text where they name none.
-// kept: like `chosen` of `request`; one function of both would be public, and no contract can speak of a program's arguments
+// kept: like `chosen` of `request`; one function of both takes a default, a usage and a closure, for these five lines
 fn chosen(rt: &HostRuntime) -> anyhow::Result<Kind> {
     let mut words = env::args(rt)?;
     let _ = words.next();

@@ -24,6 +24,7 @@ use streams::answer_all;
 const USAGE: &str = "the session's number is 1 to 99999";
 
 // The session that the program's arguments name, behind its own name: the first where they name none.
+// kept: like `chosen` of `follow`; one function of both takes a default, a usage and a closure, for these five lines
 fn chosen(rt: &HostRuntime) -> anyhow::Result<u32> {
     let mut words = env::args(rt)?;
     let _ = words.next();

@@ -16,11 +16,7 @@ pub fn hold(held: &mut Vec<u8>, bytes: &[u8], limit: usize) -> Result<(), AllocE
 pub fn front(line: &[u8], limit: usize) -> &[u8]
     ensures { result.now ≡ take limit line.now }
 {
-    if line.len() <= limit {
-        line
-    } else {
-        &line[0..limit]
-    }
+    &line[..line.len().min(limit)]
 }
 
 // A line without the CR of its end.
