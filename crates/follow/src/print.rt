@@ -9,6 +9,7 @@ use viewer::Heard;
 
 // Appends an answer.
 // kept: ` ok` and ` passed` as bytes; with `write!` `follow` is slower than its plain counterpart
+#[inline(always)]
 pub(crate) fn push_answer(
     out: &mut Vec<u8>,
     answer: Result<Heard, Refusal>,

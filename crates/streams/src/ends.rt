@@ -55,6 +55,7 @@ fn find_end(s: &[u8]) -> Option<usize>
 }
 
 // What stands before the first end, and what stands behind it, if there is one.
+#[inline(always)]
 pub fn split_line(s: &[u8]) -> (&[u8], Option<&[u8]>)
     ensures front { result.0.now ≡ before line_end s.now }
     ensures back { option_map (λ x. x.now) result.1 ≡ behind line_end s.now }

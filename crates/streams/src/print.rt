@@ -8,6 +8,7 @@ use std::alloc::AllocError;
 
 // Appends a number in decimal.
 // kept: bytes; with `write!`, which takes 200 instructions more a line, `follow` is slower than its plain counterpart
+#[inline(always)]
 pub(crate) fn push_number(out: &mut Vec<u8>, n: u64) -> Result<(), AllocError>
     ensures { OnOk result (out.new.items ≡ out.old.items ++ decimal n) }
 {
