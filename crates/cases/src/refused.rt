@@ -3,12 +3,12 @@ use row::Refusal;
 
 // The number of its fault, and its place.
 // kept: tables have the numbers of the protocol, which names of faults would not test
-pub type Numbered = (u8, usize);
+pub(crate) type Numbered = (u8, usize);
 
-pub fn number(refusal: Refusal) -> u8 {
+pub(crate) fn number(refusal: Refusal) -> u8 {
     refusal.fault.into()
 }
 
-pub fn numbered(refusal: Refusal) -> Numbered {
+pub(crate) fn numbered(refusal: Refusal) -> Numbered {
     (number(refusal), refusal.place)
 }

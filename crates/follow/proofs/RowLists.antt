@@ -21,10 +21,10 @@ use Rattle.follow.specs.Answers.{list_text, row_text, rows_from, rows_text}
 -- a whole row's list, appended to nothing
 pub row-list : {R : Type 0} (k : Kind R) → Lawful k → (row : List (Cell R)) (fields : ℕ) (delta : List (Change R)) → delta ≡ map wholly row → length row ≡ field_limit → list_extended k list_limit [] delta fields ≡ list_text k row fields
 row-list k law row fields delta whole long =
-    cond-true (length delta == 12) _ [] (eq-eqb (length delta) 12 twelve) ∙ by (covers fields) refl
+    cond-true (length delta == field_limit) _ [] (eq-eqb (length delta) field_limit whole-row) ∙ by (covers fields) refl
   where
-    twelve : length delta ≡ 12
-    twelve = ap length whole ∙ length-map row wholly ∙ long
+    whole-row : length delta ≡ field_limit
+    whole-row = ap length whole ∙ length-map row wholly ∙ long
 
     list : List ℕ
     list = written_list (changes_of k delta fields)
@@ -37,8 +37,8 @@ row-list k law row fields delta whole long =
 
     fits : covers fields ≡ true → has_room list_limit [] list ≡ true
     fits some =
-        let parts = and_parts (leb 1 fields) (leb fields 12) some in
-        let short = list-short k delta fields twelve (leb-true fields 12 parts.1) law (leb-true 1 fields parts.0) in
+        let parts = and_parts (leb 1 fields) (leb fields field_limit) some in
+        let short = list-short k delta fields whole-row (leb-true fields field_limit parts.1) law (leb-true 1 fields parts.0) in
         le-leb (0 + length (written_list (changes_of k delta fields))) list_limit (omega arith)
 
     by : (b : Bool) → covers fields ≡ b → cond b (extended list_limit [] list) [] ≡ cond b (written_list (take fields (map becomes (map (cell_of k) row)))) []
@@ -52,8 +52,8 @@ module _ {R : Type 0} (k : Kind R) (row rest : List (Cell R)) (long : length row
 
   later-row : (i : ℕ) → row_at (i + 1) (row ++ rest) ≡ row_at i rest
   later-row i =
-      let k : 12 * (i + 1) ≡ length row + 12 * i = omega arith in
-      ap (λ n. take 12 (drop n (row ++ rest))) k ∙ ap (take 12) (drop-append-add row rest (12 * i))
+      let next : field_limit * (i + 1) ≡ length row + field_limit * i = omega arith in
+      ap (λ n. take field_limit (drop n (row ++ rest))) next ∙ ap (take field_limit) (drop-append-add row rest (field_limit * i))
 
   later-rows : (i : ℕ) (es : List Entry) → rows_from k (i + 1) es (row ++ rest) ≡ rows_from k i es rest
   later-rows i [] = refl
