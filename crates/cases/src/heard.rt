@@ -1,11 +1,11 @@
 // Lines that a viewer hears, and what comes of them.
 use crate::refused::{Numbered, numbered};
-use row::{Cell, Change, FIELD_LIMIT, TextRecord, whole_row};
+use row::{CELL_LIMIT, Cell, Change, FIELD_LIMIT, TAP_LIMIT, TextRecord, whole_row};
 use std::process::Abort;
 use std::test::*;
 use tlcp::{LINE_LIMIT, LIST_LIMIT, write_list};
 use viewer::Heard::{Passed, Taken};
-use viewer::{CELL_LIMIT, Heard, TAP_LIMIT, Viewer};
+use viewer::{Heard, Viewer};
 
 type Answer = Result<Heard, Numbered>;
 

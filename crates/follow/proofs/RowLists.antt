@@ -5,7 +5,7 @@ use Rattle.std.proofs.Math.Seq.{drop-append-add, take-append_seam}
 use Rattle.std.proofs.lemmas.Bool.{cond-true, and_parts, leb-true, le-leb, eq-eqb}
 use Rattle.row.specs.Limits.{field_limit}
 use Rattle.row.specs.Records.{cell_of, change_of, wholly}
-use Rattle.row.specs.Rows.{becomes}
+use Rattle.row.specs.Rows.{becomes, row_at}
 use Rattle.row.specs.Kinds.{Kind, Lawful}
 use Rattle.row.specs.declared.change.Cell.{Cell}
 use Rattle.row.specs.declared.change.Change.{Change}
@@ -14,7 +14,6 @@ use Rattle.tlcp.specs.Bounds.{extended, has_room, list_extended}
 use Rattle.tlcp.specs.Lists.{written_list}
 use Rattle.tlcp.specs.Written.{changes_of, covers, list_limit}
 use Rattle.tlcp.proofs.Deltas.{list-short}
-use Rattle.viewer.specs.Rows.{row_at}
 use Rattle.viewer.specs.declared.entry.Entry.{Entry}
 use Rattle.follow.specs.Answers.{list_text, row_text, rows_from, rows_text}
 

@@ -3,12 +3,11 @@ use Rattle.std.specs.Prelude.{ℕ, Some, None, Option, ◌+◌, cond, List, [], 
 use Rattle.row.specs.Faults.{printed}
 use Rattle.row.specs.Kinds.{Kind}
 use Rattle.row.specs.Records.{cell_of}
-use Rattle.row.specs.Rows.{becomes}
+use Rattle.row.specs.Rows.{becomes, row_at}
 use Rattle.row.specs.declared.change.Cell.{Cell}
 use Rattle.row.specs.declared.fault.Refusal.{Refusal}
 use Rattle.tlcp.specs.Lists.{written_list}
 use Rattle.tlcp.specs.Written.{covers}
-use Rattle.viewer.specs.Rows.{row_at}
 use Rattle.viewer.specs.declared.entry.Entry.{Entry}
 use Rattle.viewer.specs.declared.hear.Heard.{Heard}
 use Rattle.viewer.specs.declared.hear.Heard.TheVariants.{Taken, Passed}

@@ -1,13 +1,12 @@
 -- What the input does to a follower, line by line, and what is printed of it.
 use Rattle.std.specs.Prelude.{ℕ, ◌+◌, List, [], ◌∷◌, map, replicate}
-use Rattle.row.specs.Limits.{field_limit}
+use Rattle.row.specs.Limits.{field_limit, cell_limit}
 use Rattle.row.specs.Kinds.{Kind}
 use Rattle.row.specs.Records.{held, null_cell}
 use Rattle.row.specs.Rows.{same}
 use Rattle.tlcp.specs.Limits.{line_limit}
 use Rattle.viewer.specs.Hearing.{Outcome, heard}
 use Rattle.viewer.specs.Entries.{waiting}
-use Rattle.viewer.specs.Limits.{cell_limit}
 use Rattle.streams.specs.Feeding as streams
 use Rattle.streams.specs.Feeding.{Hearing}
 use Rattle.follow.specs.Answers.{answer_text, rows_text}

@@ -4,11 +4,11 @@ ghost use Rattle.follow.specs.Feeding.{held_limit, hearing, opened};
 
 use crate::print::push_answer;
 use crate::rows::push_rows;
-use row::{Cell, Change, FIELD_LIMIT, Value};
+use row::{CELL_LIMIT, Cell, Change, FIELD_LIMIT, Value};
 use std::alloc::AllocError;
 use streams::Hear;
 use tlcp::LINE_LIMIT;
-use viewer::{CELL_LIMIT, Viewer};
+use viewer::Viewer;
 
 #[derive(Drop)]
 pub struct Follower<V> {

@@ -3,10 +3,10 @@ ghost use Rattle.std.specs.Prelude.{◌≡◌, ◌++◌, length, OnOk};
 ghost use Rattle.row.specs.Limits.{field_limit};
 ghost use Rattle.follow.specs.Answers.{list_text, row_text, rows_text};
 
-use row::{Cell, Change, FIELD_LIMIT, Value, whole_row};
+use row::{CELL_LIMIT, Cell, Change, FIELD_LIMIT, Value, whole_row};
 use std::alloc::AllocError;
 use tlcp::{Bounded, LIST_LIMIT};
-use viewer::{CELL_LIMIT, Entry, Viewer};
+use viewer::{Entry, Viewer};
 
 // Appends the values of a row's first fields.
 fn push_list<V: Value>(out: &mut Vec<u8>, row: &[Cell<V>], fields: usize) -> Result<(), AllocError>

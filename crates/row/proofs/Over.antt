@@ -1,10 +1,12 @@
 -- A function applied place by place, and its meaning.
-use Rattle.std.proofs.Common.{◌≡◌, Bool, true, false, cond, List, [], ◌∷◌, map, length, sym, refl, ap, ◌∙◌, arith, ◌==◌}
+use Rattle.std.proofs.Common.{◌≡◌, Bool, true, false, cond, List, [], ◌∷◌, map, length, sym, refl, ap, ◌∙◌, arith, ◌==◌, ◌&&◌}
+use Rattle.std.specs.List.{list_all}
 use Rattle.std.proofs.lemmas.Bool.{and_from, and_parts, cond_both, cond-true, cond-false, eq-eqb, eqb-true}
 use Rattle.std.proofs.Math.Bool.{and_comm}
 use Rattle.row.specs.Limits.{field_limit}
-use Rattle.row.specs.Rows.{over, becomes, change_cell, join_change, changed, join}
+use Rattle.row.specs.Rows.{all_same, is_same, over, becomes, change_cell, join_change, changed, join}
 use Rattle.row.specs.Kinds.{Kind}
+use Rattle.row.specs.Records as records
 use Rattle.row.specs.Records.{cell_of, change_of, takes, later, wholly, rows_fit}
 use Rattle.row.specs.declared.change.Cell.{Cell}
 use Rattle.row.specs.declared.change.Change.{Change}
@@ -33,6 +35,15 @@ module _ {R : Type 0} (k : Kind R) where
 
   pub join-means : (cs ds : List (Change R)) → map (change_of k) (over later cs ds) ≡ join (map (change_of k) cs) (map (change_of k) ds)
   join-means = map-over (change_of k) (change_of k) later join_change (λ c d. later-by c d.mark d.raw)
+
+  is_same-by : (m : Mark) (r : R) → records.is_same m ≡ is_same (change_of k (record { mark = m; raw = r }))
+  is_same-by Same r = refl
+  is_same-by Null r = refl
+  is_same-by Value r = refl
+
+  pub all_same-means : (ds : List (Change R)) → list_all (λ d. records.is_same d.mark) ds ≡ all_same (map (change_of k) ds)
+  all_same-means [] = refl
+  all_same-means (d ∷ ds) = λ i. is_same-by d.mark d.raw i && all_same-means ds i
 
 -- what f makes of the other list alone
 over-onto : {X Y : Type 0} (f : Y → X) (xs : List X) (ys : List Y) → length xs ≡ length ys → over (λ x y. f y) xs ys ≡ map f ys

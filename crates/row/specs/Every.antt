@@ -12,7 +12,7 @@ use Rattle.std.proofs.lemmas.Option.{cond_some, none-some}
 use Rattle.std.proofs.lemmas.Bool.{lt-ltb, both_ways, cases_lt, cases_Bool, and_parts, and_from, ltb-true, leb-true, eqb-true, le-leb, eq-eqb, cond-true, cond-false, cond_both}
 use Rattle.row.specs.Texts.{every, is_byte, is_zero, padded, text_allowed, text_sound, text_whole, text_of, text_record, text_kind}
 use Rattle.row.specs.Limits.{text_limit}
-use Rattle.row.specs.Kinds.{Kind, Lawful, Represents}
+use Rattle.row.specs.Kinds.{Kind, Lawful, Represents, rest_record}
 use Rattle.row.specs.declared.text.TextRecord.{TextRecord}
 
 pub every_append : (p : ℕ → Bool) (xs ys : List ℕ) → every p xs ≡ true → every p ys ≡ true → every p (xs ++ ys) ≡ true
@@ -142,6 +142,11 @@ text-lawful = record {
 pub apart_from : {R : Type 0} (k : Kind R) (whole : R → Bool) → ((r : R) → whole r ≡ true → k.raw (k.text r) ≡ r) → (r s : R) → whole r ≡ true → whole s ≡ true → k.text r ≡ k.text s → r ≡ s
 apart_from k whole back r s e f same = sym (back r e) ∙ ap k.raw same ∙ back s f
 
+-- the record of what r means: r where it is sound, and otherwise that of the rest value
+pub canonical-from : {R : Type 0} (k : Kind R) (sound : R → Bool) (r : R) → (sound r ≡ true → k.raw (k.text r) ≡ r) → (sound r ≡ false → k.text r ≡ k.rest) → k.raw (k.text r) ≡ cond (sound r) r (rest_record k)
+canonical-from k sound r back unsound =
+    cond_both (sound r) r (rest_record k) (λ s. k.raw (k.text r) ≡ s) back (λ e. ap k.raw (unsound e))
+
 pub text-written : (r : TextRecord) → text_sound r ≡ true → length r.bytes ≡ text_limit → (r.len ≡ length (text_of r)) × (r.bytes ≡ padded text_limit (text_of r))
 text-written r e long =
     let h = and_parts (nat_le r.len text_limit) _ e in
@@ -152,18 +157,19 @@ text-written r e long =
       padded-front r.len text_limit r.bytes small long zeros ∙ ap (padded text_limit) (sym is),
     )
 
+-- a whole record is the one made of its text
+pub raw-text : (r : TextRecord) → text_whole r ≡ true → text_record (text_of r) ≡ r
+raw-text r e =
+    let h = and_parts (length r.bytes == text_limit) (text_sound r) e in
+    let (len, bytes) = text-written r h.1 (eqb-true (length r.bytes) text_limit h.0) in
+    λ i. record { bytes = sym bytes i; len = sym len i }
+
 pub text-represents : Represents text_kind text_sound text_whole
 text-represents = record {
   raw-whole = λ t e. and_from _ _ (eq-eqb _ text_limit (length-padded text_limit t (leb-true (length t) text_limit (and_parts (nat_le (length t) text_limit) (every is_byte t) e).0))) (record-sound t e);
   unsound = λ r e. cond-false (text_sound r) (take r.len r.bytes) [] e;
   apart = apart_from text_kind text_whole raw-text;
 }
-  where
-    raw-text : (r : TextRecord) → text_whole r ≡ true → text_record (text_of r) ≡ r
-    raw-text r e =
-        let h = and_parts (length r.bytes == text_limit) (text_sound r) e in
-        let (len, bytes) = text-written r h.1 (eqb-true (length r.bytes) text_limit h.0) in
-        λ i. record { bytes = sym bytes i; len = sym len i }
 
 pub none-from-cond : {X : Type 0} (b : Bool) (y : X) → None ≡ cond b (Some y) None → b ≡ false
 none-from-cond true y e = absurd (none-some y e)

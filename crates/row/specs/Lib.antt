@@ -1,5 +1,6 @@
 pub mod Faults
 pub mod Limits
+pub mod Taps
 pub mod Rows
 pub mod Kinds
 pub mod Texts

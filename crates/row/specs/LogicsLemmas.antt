@@ -156,7 +156,7 @@ text-sound : (r : LogicRecord) → logic_sound r ≡ true → logic_text r ≡ c
 text-sound r e = cond-true (logic_sound r) (chars_of r.width r.a r.b) (low ∷ []) e
 
 -- a sound record is the one made of its text
-raw-text : (r : LogicRecord) → logic_sound r ≡ true → logic_record (logic_text r) ≡ r
+pub raw-text : (r : LogicRecord) → logic_sound r ≡ true → logic_record (logic_text r) ≡ r
 raw-text r e =
     let h = sound-parts r e in
     let in_a = words-chars r.a r.b bit_a r.a (λ p. (at_place r.a r.b p).1) r.width ∙ mod-eq_of_lt h.1 in

@@ -29,6 +29,10 @@ module _ {R : Type 0} (k : Kind R) where
   held (becomes null) = record { mark = Null; raw = rest_record k }
   held (becomes (value t)) = record { mark = Value; raw = k.raw t }
 
+  -- a change by the record that memory holds for its meaning
+  abbrev pub canonical : Change R → Change R
+  canonical c = held (change_of c)
+
   -- how memory holds a cell that is null
   abbrev pub null_cell : Cell R
   null_cell = record { null = true; raw = rest_record k }

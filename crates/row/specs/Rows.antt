@@ -1,5 +1,7 @@
--- Rows, deltas and joining. A value is known by its text, so a cell holds a text here, a list of bytes.
-use Rattle.std.specs.Prelude.{ℕ, List, [], ◌∷◌}
+-- Rows, deltas and joining, and a row among those of all taps. A value is known by its text, so a cell holds a text here, a list of bytes.
+use Rattle.std.specs.Prelude.{ℕ, ◌+◌, ◌*◌, Bool, true, false, List, [], ◌∷◌, ◌++◌, take, drop, replicate}
+use Rattle.std.specs.List.{list_all}
+use Rattle.row.specs.Limits.{field_limit}
 
 pub data Cell : Type 0 where
   null : Cell
@@ -31,3 +33,23 @@ join_change c (becomes d) = becomes d
 
 abbrev pub join : List Change → List Change → List Change
 join = over join_change
+
+-- the join of no deltas
+abbrev pub blank : List Change
+blank = replicate field_limit same
+
+abbrev pub is_same : Change → Bool
+is_same same = true
+is_same (becomes c) = false
+
+-- a delta that leaves each cell as it is
+abbrev pub all_same : List Change → Bool
+all_same = list_all is_same
+
+-- the row with index i among the places of several
+abbrev pub row_at : {X : Type 0} → ℕ → List X → List X
+row_at i places = take field_limit (drop (field_limit * i) places)
+
+-- the places with another row there
+abbrev pub with_row : {X : Type 0} → ℕ → List X → List X → List X
+with_row i row places = take (field_limit * i) places ++ (row ++ drop (field_limit * i + field_limit) places)

@@ -1,7 +1,7 @@
 // Cells and changes as memory holds them.
 ghost use Rattle.std.specs.Prelude.{◌≡◌, true, map, length, replicate, if◌then◌else◌};
-ghost use Rattle.row.specs.Records.{cell_of, change_of, held, null_cell, is_same, takes, wholly, later, rows_fit, answer_if};
-ghost use Rattle.row.specs.Rows.{null, same, becomes, over, changed, join};
+ghost use Rattle.row.specs.Records.{canonical, cell_of, change_of, held, null_cell, is_same, takes, wholly, later, rows_fit, answer_if};
+ghost use Rattle.row.specs.Rows.{all_same, null, same, becomes, over, changed, join};
 
 use crate::fault::Refusal;
 use crate::value::Value;
@@ -111,6 +111,22 @@ impl<R: Value> Change<R> {
     }
 }
 
+impl<R: Value> Change<R> {
+    // The change by the record that memory holds for its meaning.
+    pub fn canonical(self) -> Change<R>
+        ensures { result ≡ canonical R.kind self }
+    {
+        match self.mark {
+            Mark::Same => Change::same(),
+            Mark::Null => Change::null(),
+            Mark::Value => Change {
+                mark: Mark::Value,
+                raw: self.raw.canonical(),
+            },
+        }
+    }
+}
+
 // What becomes of a place by what stands in the same place of another list.
 trait Step<By>: Copy {
     ghost after: { Self → By → Self };
@@ -182,6 +198,28 @@ pub fn nullify<R: Value>(row: &mut [Cell<R>])
     ensures { row.new ≡ replicate (length row.old) (null_cell R.kind) }
 {
     fill(row, Cell::null());
+}
+
+// Makes each change hold the record of its meaning.
+pub fn canonicalize<R: Value>(delta: &mut [Change<R>])
+    ensures { delta.new ≡ map (canonical R.kind) delta.old }
+{
+    for change in delta.iter_mut() {
+        *change = change.canonical();
+    }
+}
+
+// Whether a delta leaves each cell as it is.
+pub fn all_same<R: Value>(delta: &[Change<R>]) -> bool
+    ensures { result ≡ all_same (map (change_of R.kind) delta.now) }
+{
+    // kept: of `iter().all` over a generic type nothing is known of the elements
+    for change in delta {
+        if !change.is_same() {
+            return false;
+        }
+    }
+    true
 }
 
 // Changes a row by a delta.

@@ -152,4 +152,8 @@ impl Value for LogicRecord {
         let value = Logic::check(*self).unwrap_or(Logic::rest());
         value.write(out)
     }
+
+    fn canonical(&self) -> LogicRecord {
+        Logic::check(*self).unwrap_or(Logic::rest()).into()
+    }
 }

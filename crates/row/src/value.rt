@@ -24,6 +24,10 @@ pub trait Value: Copy {
         ensures length { result ≡ length (kind.text self.now) }
         ensures bytes { out.new ≡ padded text_limit (kind.text self.now) };
 
+    // The record of the value that this one means.
+    fn canonical(&self) -> Self
+        ensures { result ≡ kind.raw (kind.text self.now) };
+
     ghost lawful: { Lawful kind };
 }
 
@@ -44,6 +48,10 @@ impl Value for TextRecord {
     fn write(&self, out: &mut [u8; TEXT_LIMIT]) -> usize {
         let value = Text::check(*self).unwrap_or(Text::rest());
         value.write(out)
+    }
+
+    fn canonical(&self) -> TextRecord {
+        Text::check(*self).unwrap_or(Text::rest()).into()
     }
 }
 

@@ -1,7 +1,7 @@
 -- What a viewer makes of a line.
 use Rattle.std.specs.Prelude.{ℕ, Bool, cond, ◌&&◌, List, [], map, length, Some, None, Ok, Err, Option, Result, ◌==◌, slice_index_or, slice_set}
 use Rattle.row.specs.Kinds.{Kind}
-use Rattle.row.specs.Limits.{field_limit}
+use Rattle.row.specs.Limits.{field_limit, cell_limit}
 use Rattle.row.specs.Records.{held, memory_refusal}
 use Rattle.row.specs.Rows as rows
 use Rattle.row.specs.Rows.{same}
@@ -15,7 +15,6 @@ use Rattle.tlcp.specs.Parts.{Piece}
 use Rattle.tlcp.specs.declared.tag.Tag.{Tag}
 use Rattle.tlcp.specs.declared.tag.Tag.TheVariants.{U, Probe, Sync, Loop, Cons, Servname, Clientip, Reqok, Unsub, Conerr, End, Error, Eos, Subok, Ov, Conf, Reqerr, Conok}
 use Rattle.viewer.specs.Entries.{find_entry, find_open, fits, opened, closed}
-use Rattle.viewer.specs.Limits.{cell_limit}
 use Rattle.viewer.specs.Rows.{null_row, change_row}
 use Rattle.viewer.specs.declared.entry.Entry.{Entry}
 use Rattle.viewer.specs.declared.hear.Heard.{Heard}

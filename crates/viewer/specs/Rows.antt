@@ -1,20 +1,12 @@
 -- A row among the cells of all taps.
-use Rattle.std.specs.Prelude.{ℕ, ◌+◌, ◌*◌, List, ◌++◌, map, take, drop, replicate}
+use Rattle.std.specs.Prelude.{ℕ, List, map, replicate}
 use Rattle.row.specs.Kinds.{Kind}
 use Rattle.row.specs.Limits.{field_limit}
 use Rattle.row.specs.Records.{held, null_cell, takes}
-use Rattle.row.specs.Rows.{over}
+use Rattle.row.specs.Rows.{over, row_at, with_row}
 use Rattle.row.specs.Rows as rows
 use Rattle.row.specs.declared.change.Cell.{Cell}
 use Rattle.tlcp.specs.Held.{filled}
-
--- the cells of the tap with index i
-abbrev pub row_at : {X : Type 0} → ℕ → List X → List X
-row_at i cells = take field_limit (drop (field_limit * i) cells)
-
--- the cells with another row there
-abbrev pub with_row : {X : Type 0} → ℕ → List X → List X → List X
-with_row i row cells = take (field_limit * i) cells ++ (row ++ drop (field_limit * i + field_limit) cells)
 
 module _ {R : Type 0} (k : Kind R) where
   abbrev pub null_row : ℕ → List (Cell R) → List (Cell R)

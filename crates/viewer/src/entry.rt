@@ -2,9 +2,8 @@
 ghost use Rattle.std.specs.Prelude.{◌≡◌, ◌<◌, length, IfSome};
 ghost use Rattle.viewer.specs.Entries.{find_entry, find_open, fits, fits_open};
 
-pub const TAP_LIMIT: usize = 8;
-
 // What the viewer knows of a tap: its subscription ID, and the field count if that is open.
+// kept: a tap's cells do not stand in its entry, since they are lent, by the project's rule
 // kept: 0 for no ID; `Viewer::holding` takes any numbers, so of an Option `None` and `Some(0)` would both be no ID
 #[derive(Clone, Copy, PartialEq, Debug)]
 pub struct Entry {

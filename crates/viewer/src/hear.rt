@@ -1,14 +1,13 @@
 // A viewer: hears lines, and keeps the rows of subscribed taps.
 ghost use Rattle.std.specs.Prelude.{◌≡◌, map, length};
-ghost use Rattle.row.specs.Limits.{field_limit};
+ghost use Rattle.row.specs.Limits.{field_limit, tap_limit, cell_limit};
 ghost use Rattle.tlcp.specs.Said.{arguments_in, piece_in, tag_in};
 ghost use Rattle.viewer.specs.Entries.{find_entry, find_open, fits, waiting};
 ghost use Rattle.viewer.specs.Hearing.{effect_of, set_entry, update, hear_effect, heard, outcome};
-ghost use Rattle.viewer.specs.Limits.{tap_limit, cell_limit};
 
-use crate::entry::{Entry, TAP_LIMIT, find_entry, find_open};
-use crate::rows::{CELL_LIMIT, clear_row, update_row};
-use row::{Cell, Change, FIELD_LIMIT, Refusal, Value, blank};
+use crate::entry::{Entry, find_entry, find_open};
+use crate::rows::{clear_row, update_row};
+use row::{CELL_LIMIT, Cell, Change, FIELD_LIMIT, Refusal, TAP_LIMIT, Value, blank};
 use tlcp::{Notification, Part, read_line, read_list};
 
 // What came of a line that was accepted.

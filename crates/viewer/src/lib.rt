@@ -5,6 +5,5 @@ mod entry;
 mod hear;
 mod rows;
 
-pub use entry::{Entry, TAP_LIMIT};
+pub use entry::Entry;
 pub use hear::{Heard, Viewer};
-pub use rows::CELL_LIMIT;

@@ -1,15 +1,11 @@
 // A row among the cells of all taps.
 ghost use Rattle.std.specs.Prelude.{◌≡◌, ◌<◌, map, length};
 ghost use Rattle.row.specs.Records.{takes};
-ghost use Rattle.row.specs.Rows.{over};
-ghost use Rattle.row.specs.Limits.{field_limit};
-ghost use Rattle.viewer.specs.Limits.{tap_limit, cell_limit};
-ghost use Rattle.viewer.specs.Rows.{row_at, with_row, null_row};
+ghost use Rattle.row.specs.Rows.{over, row_at, with_row};
+ghost use Rattle.row.specs.Limits.{field_limit, tap_limit, cell_limit};
+ghost use Rattle.viewer.specs.Rows.{null_row};
 
 use row::{Cell, Change, FIELD_LIMIT, Value, change_row, nullify};
-
-// kept: a tap's cells do not stand in its entry, since they are lent, by the project's rule
-pub const CELL_LIMIT: usize = 96;
 
 // Makes a tap's row null.
 pub(crate) fn clear_row<R: Value>(cells: &mut [Cell<R>], i: usize)

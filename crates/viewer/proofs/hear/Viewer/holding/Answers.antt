@@ -1,6 +1,6 @@
 use Rattle.std.proofs.Common.{rules, arith}
 use Rattle.viewer.specs.Entries.{waiting}
-use Rattle.viewer.specs.Limits.{tap_limit}
+use Rattle.row.specs.Limits.{tap_limit}
 use Rattle.viewer.proofs.Mapped.{mapped}
 use Rattle.viewer.proofs.hear.Viewer.holding.Goals as goal
 

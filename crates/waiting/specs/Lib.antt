@@ -1,0 +1,6 @@
+pub mod Limits
+pub mod Lists
+pub mod Policies
+pub mod Pairs
+pub mod Queues
+pub mod Marks

@@ -1,0 +1,40 @@
+-- What waits to be sent: pairs of a tap and a delta, in sending order.
+use Rattle.std.specs.Prelude.{ℕ, Bool, not, ◌&&◌, List, [], ◌∷◌, map, length, cond, fold, filter, ◌==◌}
+use Rattle.std.specs.List.{count_by}
+use Rattle.row.specs.Limits.{field_limit}
+use Rattle.row.specs.Rows.{Change, join, blank, is_same, all_same}
+use Rattle.row.specs.Taps.{is_tap}
+
+pub record Pair : Type 0 where
+  pub tap : ℕ
+  pub delta : List Change
+
+abbrev pub pair : ℕ → List Change → Pair
+pair t d = record { tap = t; delta = d }
+
+abbrev pub is_for : ℕ → Pair → Bool
+is_for t p = p.tap == t
+
+-- a pair that may wait: a change for each field of a tap, not all of them same
+abbrev pub may_wait : Pair → Bool
+may_wait p = is_tap p.tap && (length p.delta == field_limit && not (all_same p.delta))
+
+-- how many of the changes are not same
+abbrev pub changing : List Change → ℕ
+changing = count_by (λ c. not (is_same c))
+
+-- the deltas that wait for a tap, in order
+abbrev pub waiting_for : ℕ → List Pair → List (List Change)
+waiting_for t l = map (λ p. p.delta) (filter (is_for t) l)
+
+-- the join of the deltas that wait for a tap
+abbrev pub joined : ℕ → List Pair → List Change
+joined t l = fold join blank (waiting_for t l)
+
+-- the other taps' pairs
+abbrev pub without : ℕ → List Pair → List Pair
+without t l = filter (λ p. not (is_for t p)) l
+
+-- the pair that a delta makes: none where it leaves each cell as it is
+abbrev pub pair_of_changes : ℕ → List Change → List Pair
+pair_of_changes t d = cond (all_same d) [] (pair t d ∷ [])

@@ -1,0 +1,105 @@
+// Marks: one joined delta waits for a tap, and taps wait by rising number.
+ghost use Rattle.std.specs.Prelude.{◌≡◌, length};
+ghost use Rattle.row.specs.Limits.{cell_limit};
+
+use crate::buffer::{Pair, Unfit, Waiting};
+use crate::rows::{clear_row, copy_changes, join_row};
+use row::{
+    CELL_LIMIT, Change, FIELD_LIMIT, Fault, Refusal, TAP_LIMIT, Tap, Value, all_same, blank,
+};
+
+// A row of the lent memory for each tap. A tap waits if its row has a change that is not same.
+#[derive(Drop)]
+pub struct Marks<'a, R> {
+    changes: &'a mut [Change<R>],
+    ghost whole: { length changes.now ≡ cell_limit },
+}
+
+// The index of the first tap that waits.
+fn first_waiting<R: Value>(changes: &[Change<R>]) -> Option<usize>
+    requires { length changes.now ≡ cell_limit }
+{
+    for i in 0..TAP_LIMIT {
+        let at = FIELD_LIMIT * i;
+        if !all_same(&changes[at..at + FIELD_LIMIT]) {
+            return Some(i);
+        }
+    }
+    None
+}
+
+// How many taps wait.
+fn count_waiting<R: Value>(changes: &[Change<R>]) -> usize
+    requires { length changes.now ≡ cell_limit }
+{
+    let mut count = 0;
+    for i in 0..TAP_LIMIT {
+        let at = FIELD_LIMIT * i;
+        if !all_same(&changes[at..at + FIELD_LIMIT]) {
+            count += 1;
+        }
+    }
+    count
+}
+
+impl<'a, R: Value> Waiting<'a, R> for Marks<'a, R> {
+    ghost use Rattle.row.specs.Limits.{tap_limit};
+    ghost use Rattle.waiting.specs.Marks.{marks, marks_in};
+
+    ghost policy = { marks };
+
+    ghost list = { λ m. marks_in R.kind tap_limit 1 m.changes.now };
+
+    ghost places = { λ m. m.changes.now };
+
+    ghost lent = { λ m. m.changes.ghost_name };
+
+    ghost lawful = { ? };
+
+    fn new(changes: &'a mut [Change<R>]) -> Result<Marks<'a, R>, Unfit<'a, R>> {
+        if changes.len() != CELL_LIMIT {
+            return Err(Unfit { changes });
+        }
+        blank(changes);
+        Ok(Marks { changes })
+    }
+
+    fn takes(&self, _: Tap) -> bool {
+        true
+    }
+
+    fn put(&mut self, tap: Tap, delta: &[Change<R>]) -> Result<(), Refusal> {
+        if delta.len() != FIELD_LIMIT {
+            return Err(Refusal::MEMORY);
+        }
+        join_row(self.changes, tap.index(), delta);
+        Ok(())
+    }
+
+    fn look(&self) -> Result<Pair<'_, R>, Refusal> {
+        let i = first_waiting(self.changes).ok_or(Fault::Nothing.at(0))?;
+        let tap = Tap::try_from(i + 1)?;
+        let at = FIELD_LIMIT * i;
+        let delta = &self.changes[at..at + FIELD_LIMIT];
+        Ok(Pair { tap, delta })
+    }
+
+    fn drop_first(&mut self) -> Result<(), Refusal> {
+        let changes = &mut *self.changes;
+        let i = first_waiting(changes).ok_or(Fault::Nothing.at(0))?;
+        clear_row(changes, i);
+        Ok(())
+    }
+
+    fn forget(&mut self, tap: Tap) {
+        clear_row(self.changes, tap.index());
+    }
+
+    fn copy_to(&self, other: &mut Marks<'a, R>) {
+        copy_changes(self.changes, other.changes);
+    }
+
+    fn count(&self) -> usize {
+        count_waiting(self.changes)
+    }
+}

@@ -1,0 +1,123 @@
+// The queue: deltas wait in the order in which they were put.
+ghost use Rattle.std.specs.Prelude.{◌≡◌, ◌≤◌, ◌<◌, true, length, take, remove};
+ghost use Rattle.std.specs.List.{list_all};
+ghost use Rattle.row.specs.Taps.{is_tap};
+ghost use Rattle.waiting.specs.Limits.{pair_limit, queue_limit};
+
+use crate::buffer::{Pair, Unfit, Waiting};
+use crate::rows::{copy_changes, remove_row, store_row};
+use row::{Change, FIELD_LIMIT, Fault, Refusal, Tap, Value, all_same, blank};
+
+// The pairs that may wait.
+pub const PAIR_LIMIT: usize = 16;
+
+// The changes of a queue's memory.
+pub const QUEUE_LIMIT: usize = PAIR_LIMIT * FIELD_LIMIT;
+
+// Up to `PAIR_LIMIT` pairs: the tap of each by its number, and its delta as a row of the lent memory.
+// kept: tap numbers and no `Tap`, since a struct that holds a `&mut` may be no type argument where a struct in it has an invariant
+#[derive(Drop)]
+pub struct Queue<'a, R> {
+    changes: &'a mut [Change<R>],
+    taps: [usize; PAIR_LIMIT],
+    len: usize,
+    ghost whole: { length changes.now ≡ queue_limit },
+    ghost known: { list_all is_tap taps ≡ true },
+    ghost few: { len ≤ pair_limit },
+}
+
+impl<R: Value> Queue<'_, R> {
+    // Removes the pair at a place: those behind it move up.
+    fn remove(&mut self, i: usize)
+        requires { i < self.old.len }
+    {
+        self.taps[i..].rotate_left(1);
+        self.len -= 1;
+        remove_row(self.changes, i);
+    }
+}
+
+impl<'a, R: Value> Waiting<'a, R> for Queue<'a, R> {
+    ghost use Rattle.waiting.specs.Queues.{queue, pairs_in};
+
+    ghost policy = { queue };
+
+    ghost list = { λ q. pairs_in R.kind (take q.len q.taps) q.changes.now };
+
+    ghost places = { λ q. q.changes.now };
+
+    ghost lent = { λ q. q.changes.ghost_name };
+
+    ghost lawful = { ? };
+
+    fn new(changes: &'a mut [Change<R>]) -> Result<Queue<'a, R>, Unfit<'a, R>> {
+        if changes.len() != QUEUE_LIMIT {
+            return Err(Unfit { changes });
+        }
+        blank(changes);
+        Ok(Queue {
+            changes,
+            taps: [1; PAIR_LIMIT],
+            len: 0,
+        })
+    }
+
+    fn takes(&self, _: Tap) -> bool {
+        self.len < PAIR_LIMIT
+    }
+
+    fn put(&mut self, tap: Tap, delta: &[Change<R>]) -> Result<(), Refusal> {
+        if delta.len() != FIELD_LIMIT {
+            return Err(Refusal::MEMORY);
+        }
+        if !self.takes(tap) {
+            return Err(Fault::Full.at(0));
+        }
+        if all_same(delta) {
+            return Ok(());
+        }
+        let i = self.len;
+        self.taps[i] = tap.number();
+        self.len = i + 1;
+        store_row(self.changes, i, delta);
+        Ok(())
+    }
+
+    fn look(&self) -> Result<Pair<'_, R>, Refusal> {
+        if self.len == 0 {
+            return Err(Fault::Nothing.at(0));
+        }
+        let tap = Tap::try_from(self.taps[0])?;
+        let delta = &self.changes[..FIELD_LIMIT];
+        Ok(Pair { tap, delta })
+    }
+
+    fn drop_first(&mut self) -> Result<(), Refusal> {
+        if self.len == 0 {
+            return Err(Fault::Nothing.at(0));
+        }
+        self.remove(0);
+        Ok(())
+    }
+
+    fn forget(&mut self, tap: Tap) {
+        let mut i = 0;
+        while i < self.len {
+            if self.taps[i] == tap.number() {
+                self.remove(i);
+            } else {
+                i += 1;
+            }
+        }
+    }
+
+    fn copy_to(&self, other: &mut Queue<'a, R>) {
+        other.taps = self.taps;
+        other.len = self.len;
+        copy_changes(self.changes, other.changes);
+    }
+
+    fn count(&self) -> usize {
+        self.len
+    }
+}
