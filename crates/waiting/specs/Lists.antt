@@ -1,5 +1,5 @@
 -- What waits to be sent: pairs of a tap and a delta, in sending order.
-use Rattle.std.specs.Prelude.{ℕ, Bool, not, ◌&&◌, List, [], ◌∷◌, map, length, cond, fold, filter, ◌==◌}
+use Rattle.std.specs.Prelude.{ℕ, Bool, not, ◌&&◌, List, [], ◌∷◌, map, length, cond, fold, filter, flat_map, ◌==◌}
 use Rattle.std.specs.List.{count_by}
 use Rattle.row.specs.Limits.{field_limit}
 use Rattle.row.specs.Rows.{Change, join, blank, is_same, all_same}
@@ -30,6 +30,10 @@ waiting_for t l = map (λ p. p.delta) (filter (is_for t) l)
 -- the join of the deltas that wait for a tap
 abbrev pub joined : ℕ → List Pair → List Change
 joined t l = fold join blank (waiting_for t l)
+
+-- the changes that wait, one delta behind the other
+abbrev pub deltas : List Pair → List Change
+deltas = flat_map (λ p. p.delta)
 
 -- the other taps' pairs
 abbrev pub without : ℕ → List Pair → List Pair

@@ -1,5 +1,5 @@
 -- The queue: deltas wait in the order in which they were put, up to a number of pairs.
-use Rattle.std.specs.Prelude.{ℕ, ◌-◌, ◌*◌, Bool, ◌&&◌, List, [], ◌∷◌, ◌++◌, map, length, take, drop, replicate, flat_map, nat_le, nat_lt}
+use Rattle.std.specs.Prelude.{ℕ, ◌-◌, ◌*◌, Bool, ◌&&◌, List, [], ◌∷◌, ◌++◌, map, length, take, drop, replicate, nat_le, nat_lt}
 use Rattle.std.specs.List.{list_all}
 use Rattle.row.specs.Kinds.{Kind}
 use Rattle.row.specs.Limits.{field_limit}
@@ -7,7 +7,7 @@ use Rattle.row.specs.Records.{change_of}
 use Rattle.row.specs.Rows.{Change, same}
 use Rattle.row.specs.declared.change.Change as records
 use Rattle.waiting.specs.Limits.{pair_limit}
-use Rattle.waiting.specs.Lists.{Pair, pair, may_wait, pair_of_changes}
+use Rattle.waiting.specs.Lists.{Pair, pair, may_wait, deltas, pair_of_changes}
 use Rattle.waiting.specs.Policies.{Policy}
 
 -- the policy of a queue for so many pairs: a row of its memory for each
@@ -17,7 +17,7 @@ queue_of limit = record {
   takes = λ l t. nat_lt (length l) limit;
   after = λ l t d. l ++ pair_of_changes t d;
   holds = λ l. nat_le (length l) limit && list_all may_wait l;
-  layout = λ l. flat_map (λ p. p.delta) l ++ replicate (field_limit * (limit - length l)) same;
+  layout = λ l. deltas l ++ replicate (field_limit * (limit - length l)) same;
 }
 
 abbrev pub queue : Policy

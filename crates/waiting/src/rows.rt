@@ -45,10 +45,9 @@ pub(crate) fn remove_row<R: Value>(changes: &mut [Change<R>], i: usize)
     requires { field_limit * i + field_limit ≤ length changes.old }
     ensures { changes.new ≡ take (field_limit * i) changes.old ++ (drop (field_limit * i + field_limit) changes.old ++ replicate field_limit (held R.kind same)) }
 {
-    let behind = &mut changes[FIELD_LIMIT * i..];
-    behind.rotate_left(FIELD_LIMIT);
-    let end = behind.len() - FIELD_LIMIT;
-    blank(&mut behind[end..]);
+    changes[FIELD_LIMIT * i..].rotate_left(FIELD_LIMIT);
+    let last = changes.len() - FIELD_LIMIT;
+    blank(&mut changes[last..]);
 }
 
 // kept: a field's slice cannot be passed on beside another field's

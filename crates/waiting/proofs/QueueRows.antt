@@ -1,0 +1,251 @@
+-- The pairs of a queue, by the rows of its memory.
+use Rattle.std.proofs.Common.{◌≡◌, ℕ, zero, suc, ◌+◌, ◌-◌, ◌*◌, ◌<◌, ◌≤◌, Bool, true, false, nat_le, get_or, set, slice_set, List, [], ◌∷◌, ◌++◌, map, length, take, drop, replicate, Ok, sym, refl, ap, ◌∙◌, take-add, arith, append_assoc, not-suc-le-zero}
+use Rattle.std.specs.List.{list_all, remove}
+use Rattle.std.proofs.lemmas.Bool.{and_parts, and_from, eqb-true, leb-true, le-leb, lt-ltb, cond-false}
+use Rattle.std.proofs.lemmas.List.Folds.{list_all-append}
+use Rattle.std.proofs.lemmas.List.{length-append, length-drop, length-take-le, map-append, replicate-append-replicate, take_at, drop_at, drop-drop, take-append-le, drop-append-le, drop-replicate, take-map, drop-map, append-nil, take-append-drop, drop_more, length-map, take_more_set, get_or-take}
+use Rattle.std.proofs.lemmas.Grind.{flat_map-append}
+use Rattle.std.proofs.lemmas.List.Edits.{length-remove}
+use Rattle.row.specs.Kinds.{Kind, Lawful}
+use Rattle.row.specs.Limits.{field_limit}
+use Rattle.row.specs.Records.{canonical, change_of, held}
+use Rattle.row.specs.Rows as rows
+use Rattle.row.specs.Rows.{becomes, value, same, all_same, with_row}
+use Rattle.row.specs.Taps.{is_tap}
+use Rattle.row.specs.declared.change.Change.{Change}
+use Rattle.row.specs.declared.change.Mark.{Mark}
+use Rattle.row.specs.declared.change.Mark.TheVariants.{Same, Null, Value}
+use Rattle.waiting.specs.Limits.{pair_limit}
+use Rattle.waiting.specs.Lists.{Pair, pair, may_wait, deltas}
+use Rattle.waiting.specs.Policies.{Kept, drop_answer}
+use Rattle.waiting.specs.QueueLaws.{queue-lawful}
+use Rattle.waiting.specs.Queues.{pairs_in, queue, queue_of}
+
+module _ {X : Type 0} (xs : List X) where
+  next : (i : ℕ) → field_limit * suc i ≡ field_limit + field_limit * i
+  next i = omega arith
+
+  take-rows : (i : ℕ) → take (field_limit * suc i) xs ≡ take field_limit xs ++ take (field_limit * i) (drop field_limit xs)
+  take-rows i = ap (λ n. take n xs) (next i) ∙ take-add field_limit (field_limit * i) xs
+
+  drop-rows : (i m : ℕ) → drop (field_limit * suc i + m) xs ≡ drop (field_limit * i + m) (drop field_limit xs)
+  drop-rows i m =
+      let sum : field_limit * suc i + m ≡ field_limit + (field_limit * i + m) = omega arith in
+      ap (λ n. drop n xs) sum ∙ sym (drop-drop (field_limit * i + m) field_limit xs)
+
+  -- behind the first row, the next one is the first
+  between-rows : (i m : ℕ) (ys : List X) → take (field_limit * suc i) xs ++ (ys ++ drop (field_limit * suc i + m) xs) ≡ take field_limit xs ++ (take (field_limit * i) (drop field_limit xs) ++ (ys ++ drop (field_limit * i + m) (drop field_limit xs)))
+  between-rows i m ys =
+      (λ j. take-rows i j ++ (ys ++ drop-rows i m j)) ∙ append_assoc (take field_limit xs) (take (field_limit * i) (drop field_limit xs)) _
+
+module _ {R : Type 0} (k : Kind R) where
+  pub length-pairs : (ts : List ℕ) (cs : List (Change R)) → length (pairs_in k ts cs) ≡ length ts
+  length-pairs [] cs = refl
+  length-pairs (t ∷ ts) cs = ap suc (length-pairs ts (drop field_limit cs))
+
+  -- as many pairs as taps of a queue
+  pub length-taken : (len : ℕ) (taps : List ℕ) (cs : List (Change R)) → len ≤ length taps → length (pairs_in k (take len taps) cs) ≡ len
+  length-taken len taps cs h = length-pairs (take len taps) cs ∙ length-take-le len taps h
+
+  tap-at : (ts : List ℕ) (cs : List (Change R)) (i : ℕ) (d : Pair) → i < length ts → (get_or (pairs_in k ts cs) i d).tap ≡ get_or ts i 0
+  tap-at [] cs i d h = absurd (not-suc-le-zero h)
+  tap-at (t ∷ ts) cs zero d h = refl
+  tap-at (t ∷ ts) cs (suc i) d h = tap-at ts (drop field_limit cs) i d (omega arith)
+
+  pub tap-taken : (len i : ℕ) (taps : List ℕ) (cs : List (Change R)) (d : Pair) → i < len → len ≤ length taps → (get_or (pairs_in k (take len taps) cs) i d).tap ≡ get_or taps i 0
+  tap-taken len i taps cs d h few =
+      tap-at (take len taps) cs i d (omega (arith, length-take-le len taps few)) ∙ get_or-take len taps i 0 h
+
+  -- the first pair is that of the first row
+  first-row : (t : ℕ) (ts : List ℕ) (row cs : List (Change R)) → length row ≡ field_limit → pairs_in k (t ∷ ts) (row ++ cs) ≡ pair t (map (change_of k) row) ∷ pairs_in k ts cs
+  first-row t ts row cs h =
+      λ i. pair t (map (change_of k) (take_at row cs field_limit h i)) ∷ pairs_in k ts (drop_at row cs field_limit h i)
+
+  -- what lies behind the rows does not matter
+  front : (ts : List ℕ) (cs more : List (Change R)) → field_limit * length ts ≤ length cs → pairs_in k ts (cs ++ more) ≡ pairs_in k ts cs
+  front [] cs more h = refl
+  front (t ∷ ts) cs more h =
+      let inside : field_limit ≤ length cs = omega arith in
+      let behind : field_limit * length ts ≤ length (drop field_limit cs) = omega (arith, length-drop field_limit cs) in
+      λ i. pair t (map (change_of k) (take-append-le field_limit cs more inside i)) ∷ (ap (pairs_in k ts) (drop-append-le field_limit cs more inside) ∙ front ts (drop field_limit cs) more behind) i
+
+  pub pairs-pushed : (ts : List ℕ) (t : ℕ) (row cs : List (Change R)) → length row ≡ field_limit → field_limit * length ts + field_limit ≤ length cs → pairs_in k (ts ++ t ∷ []) (with_row (length ts) row cs) ≡ pairs_in k ts cs ++ pair t (map (change_of k) row) ∷ []
+  pairs-pushed [] t row cs h inside = first-row t [] row (drop field_limit cs) h
+  pairs-pushed (u ∷ ts) t row cs h inside =
+      ap (pairs_in k (u ∷ ts ++ t ∷ [])) (between-rows cs (length ts) field_limit row)
+      ∙ first-row u (ts ++ t ∷ []) (take field_limit cs) _ (length-take-le field_limit cs (omega arith))
+      ∙ ap (λ l. pair u (map (change_of k) (take field_limit cs)) ∷ l) (pairs-pushed ts t row (drop field_limit cs) h (omega (arith, length-drop field_limit cs)))
+
+  pub pairs-removed : (ts : List ℕ) (i : ℕ) (cs more : List (Change R)) → i < length ts → field_limit * length ts ≤ length cs → pairs_in k (remove ts i) (take (field_limit * i) cs ++ (drop (field_limit * i + field_limit) cs ++ more)) ≡ remove (pairs_in k ts cs) i
+  pairs-removed [] i cs more h inside = absurd (not-suc-le-zero h)
+  pairs-removed (t ∷ ts) zero cs more h inside = front ts (drop field_limit cs) more (omega (arith, length-drop field_limit cs))
+  pairs-removed (t ∷ ts) (suc i) cs more h inside =
+      ap (pairs_in k (t ∷ remove ts i)) ((λ j. take-rows cs i j ++ (drop-rows cs i field_limit j ++ more)) ∙ append_assoc (take field_limit cs) (take (field_limit * i) (drop field_limit cs)) _)
+      ∙ first-row t (remove ts i) (take field_limit cs) _ (length-take-le field_limit cs (omega arith))
+      ∙ ap (λ l. pair t (map (change_of k) (take field_limit cs)) ∷ l) (pairs-removed ts i (drop field_limit cs) more (omega arith) (omega (arith, length-drop field_limit cs)))
+
+wide : (p : Pair) (l : List Pair) → list_all may_wait (p ∷ l) ≡ true → (length p.delta ≡ field_limit) × (list_all may_wait l ≡ true)
+wide p l e =
+    let h = and_parts (may_wait p) (list_all may_wait l) e in
+    (eqb-true (length p.delta) field_limit (and_parts _ _ (and_parts _ _ h.0).1).0, h.1)
+
+pub length-deltas : (l : List Pair) → list_all may_wait l ≡ true → length (deltas l) ≡ field_limit * length l
+length-deltas [] e = refl
+length-deltas (p ∷ l) e =
+    let h = wide p l e in
+    omega (arith, length-append p.delta (deltas l), h.0, length-deltas l h.1)
+
+deltas-removed : (l : List Pair) (i : ℕ) → list_all may_wait l ≡ true → i < length l → take (field_limit * i) (deltas l) ++ drop (field_limit * i + field_limit) (deltas l) ≡ deltas (remove l i)
+deltas-removed [] i e h = absurd (not-suc-le-zero h)
+deltas-removed (p ∷ l) zero e h = drop_at p.delta (deltas l) field_limit (wide p l e).0
+deltas-removed (p ∷ l) (suc i) e h =
+    let w = wide p l e in
+    between-rows (deltas (p ∷ l)) i field_limit []
+    ∙ (λ j. take_at p.delta (deltas l) field_limit w.0 j ++ (take (field_limit * i) (drop_at p.delta (deltas l) field_limit w.0 j) ++ drop (field_limit * i + field_limit) (drop_at p.delta (deltas l) field_limit w.0 j)))
+    ∙ ap (λ ds. p.delta ++ ds) (deltas-removed l i w.1 (omega arith))
+
+-- the taps of a queue behind one that is removed
+taps-removed : (ts : List ℕ) (i n x : ℕ) → i ≤ n → suc n ≤ length ts → take n (remove ts i ++ x ∷ []) ≡ remove (take (suc n) ts) i
+taps-removed [] i n x h few = absurd (not-suc-le-zero few)
+taps-removed (t ∷ ts) zero n x h few = take-append-le n ts (x ∷ []) (omega arith)
+taps-removed (t ∷ ts) (suc i) zero x h few = absurd (not-suc-le-zero h)
+taps-removed (t ∷ ts) (suc i) (suc n) x h few = ap (λ l. t ∷ l) (taps-removed ts i n x (omega arith) (omega arith))
+
+-- the pairs of a queue behind one that is removed, by what its taps and its memory then are
+pub queue-removed : {R : Type 0} (k : Kind R) (len i x : ℕ) (taps turned : List ℕ) (cs moved more : List (Change R)) → i < len → len ≤ length taps → field_limit * len ≤ length cs → turned ≡ remove taps i ++ x ∷ [] → moved ≡ take (field_limit * i) cs ++ (drop (field_limit * i + field_limit) cs ++ more) → pairs_in k (take (len - 1) turned) moved ≡ remove (pairs_in k (take len taps) cs) i
+queue-removed k zero i x taps turned cs moved more h few inside ts ms = absurd (not-suc-le-zero h)
+queue-removed k (suc n) i x taps turned cs moved more h few inside ts ms =
+    let long = length-take-le (suc n) taps few in
+    let less : suc n - 1 ≡ n = omega arith in
+    (λ j. pairs_in k (take (less j) (ts j)) (ms j))
+    ∙ ap (λ l. pairs_in k l (take (field_limit * i) cs ++ (drop (field_limit * i + field_limit) cs ++ more))) (taps-removed taps i n x (omega arith) few)
+    ∙ pairs-removed k (take (suc n) taps) i cs more (omega (arith, long)) (omega (arith, long))
+
+pub canonical-all : {R : Type 0} (k : Kind R) (ds : List (Change R)) → map (canonical k) ds ≡ map (held k) (map (change_of k) ds)
+canonical-all k [] = refl
+canonical-all k (d ∷ ds) = ap (λ l. canonical k d ∷ l) (canonical-all k ds)
+
+-- the record of a change means what the change means
+module _ {R : Type 0} (k : Kind R) (law : Lawful k) where
+  canonical-by : (m : Mark) (r : R) → change_of k (canonical k (record { mark = m; raw = r })) ≡ change_of k (record { mark = m; raw = r })
+  canonical-by Same r = refl
+  canonical-by Null r = refl
+  canonical-by Value r = ap (λ t. becomes (value t)) (law.text-raw (k.text r) (law.text-allowed r))
+
+  pub canonical-means : (ds : List (Change R)) → map (change_of k) (map (canonical k) ds) ≡ map (change_of k) ds
+  canonical-means [] = refl
+  canonical-means (d ∷ ds) = λ i. canonical-by d.mark d.raw i ∷ canonical-means ds i
+
+  -- the pairs of a queue behind a push, by what its taps and its memory then are
+  pub queue-pushed : (len t : ℕ) (taps : List ℕ) (cs delta moved : List (Change R)) → len < length taps → field_limit * len + field_limit ≤ length cs → length delta ≡ field_limit → moved ≡ with_row len (map (canonical k) delta) cs → pairs_in k (take (len + 1) (slice_set taps len t)) moved ≡ pairs_in k (take len taps) cs ++ pair t (map (change_of k) delta) ∷ []
+  queue-pushed len t taps cs delta moved h inside whole ms =
+      let row = map (canonical k) delta in
+      let long = length-take-le len taps (omega arith) in
+      let wide : length row ≡ field_limit = length-map delta (canonical k) ∙ whole in
+      (λ j. pairs_in k (take_more_set taps len t h j) (ms j))
+      ∙ ap (λ n. pairs_in k (take len taps ++ t ∷ []) (with_row n row cs)) (sym long)
+      ∙ pairs-pushed k (take len taps) t row cs wide (omega (arith, long))
+      ∙ ap (λ d. pairs_in k (take len taps) cs ++ pair t d ∷ []) (canonical-means delta)
+
+map-rows : {X Y : Type 0} (f : X → Y) (i m : ℕ) (ys xs : List X) → take i (map f xs) ++ (map f ys ++ drop m (map f xs)) ≡ map f (take i xs ++ (ys ++ drop m xs))
+map-rows f i m ys xs =
+    (λ j. take-map f i xs j ++ (map f ys ++ drop-map f m xs j))
+    ∙ ap (λ l. map f (take i xs) ++ l) (sym (map-append f ys (drop m xs)))
+    ∙ sym (map-append f (take i xs) (ys ++ drop m xs))
+
+map-ends : {X Y : Type 0} (f : X → Y) (i m : ℕ) (xs ys : List X) → take i (map f xs) ++ (drop m (map f xs) ++ map f ys) ≡ map f (take i xs ++ (drop m xs ++ ys))
+map-ends f i m xs ys =
+    (λ j. take-map f i xs j ++ (drop-map f m xs j ++ map f ys))
+    ∙ ap (λ l. map f (take i xs) ++ l) (sym (map-append f (drop m xs) ys))
+    ∙ sym (map-append f (take i xs) (drop m xs ++ ys))
+
+module _ (limit : ℕ) (l : List Pair) (waits : list_all may_wait l ≡ true) where
+  abbrev rest : List rows.Change
+  rest = replicate (field_limit * (limit - length l)) same
+
+  pub lays-pushed : (t : ℕ) (d : List rows.Change) → length d ≡ field_limit → length l < limit → with_row (length l) d ((queue_of limit).layout l) ≡ (queue_of limit).layout (l ++ pair t d ∷ [])
+  lays-pushed t d whole room =
+      let at = field_limit * length l in
+      let before : take at (deltas l ++ rest) ≡ deltas l = take_at (deltas l) rest at (length-deltas l waits) in
+      let behind : drop (at + field_limit) (deltas l ++ rest) ≡ replicate (field_limit * (limit - length (l ++ pair t d ∷ []))) same =
+      sym (drop-drop field_limit at (deltas l ++ rest))
+      ∙ ap (drop field_limit) (drop_at (deltas l) rest at (length-deltas l waits))
+      ∙ drop-replicate field_limit (field_limit * (limit - length l)) same
+      ∙ ap (λ n. replicate n same) (omega (arith, length-append l (pair t d ∷ []))) in
+      (λ i. before i ++ (d ++ behind i))
+      ∙ sym (append_assoc (deltas l) d _)
+      ∙ ap (λ ds. ds ++ replicate (field_limit * (limit - length (l ++ pair t d ∷ []))) same) (ap (λ ds. deltas l ++ ds) (sym (append-nil d)) ∙ sym (flat_map-append (λ p. p.delta) l (pair t d ∷ [])))
+
+  pub lays-removed : (i : ℕ) → i < length l → length l ≤ limit → take (field_limit * i) ((queue_of limit).layout l) ++ (drop (field_limit * i + field_limit) ((queue_of limit).layout l) ++ replicate field_limit same) ≡ (queue_of limit).layout (remove l i)
+  lays-removed i h few =
+      let long = length-deltas l waits in
+      let at = field_limit * i in
+      let fewer : field_limit * (limit - length l) + field_limit ≡ field_limit * (limit - length (remove l i)) = omega (arith, length-remove l i h) in
+      (λ j. take-append-le at (deltas l) rest (omega arith) j ++ (drop-append-le (at + field_limit) (deltas l) rest (omega arith) j ++ replicate field_limit same))
+      ∙ ap (λ ds. take at (deltas l) ++ ds) (append_assoc (drop (at + field_limit) (deltas l)) rest (replicate field_limit same))
+      ∙ sym (append_assoc (take at (deltas l)) (drop (at + field_limit) (deltas l)) (rest ++ replicate field_limit same))
+      ∙ (λ j. deltas-removed l i waits h j ++ (replicate-append-replicate (field_limit * (limit - length l)) field_limit same ∙ ap (λ n. replicate n same) fewer) j)
+
+list_all-parts : {X : Type 0} (p : X → Bool) (n : ℕ) (xs : List X) → list_all p xs ≡ true → (list_all p (take n xs) ≡ true) × (list_all p (drop n xs) ≡ true)
+list_all-parts p n xs e =
+    and_parts _ _ (sym (list_all-append p (take n xs) (drop n xs)) ∙ ap (list_all p) (take-append-drop n xs) ∙ e)
+
+list_all-removed : {X : Type 0} (p : X → Bool) (xs : List X) (i : ℕ) → list_all p xs ≡ true → list_all p (remove xs i) ≡ true
+list_all-removed p xs i e =
+    list_all-append p (take i xs) (drop (suc i) xs) ∙ and_from _ _ (list_all-parts p i xs e).0 (list_all-parts p (suc i) xs e).1
+
+pub list_all-set : {X : Type 0} (p : X → Bool) (xs : List X) (i : ℕ) (x : X) → list_all p xs ≡ true → p x ≡ true → list_all p (set xs i x) ≡ true
+list_all-set p [] i x e f = refl
+list_all-set p (y ∷ xs) zero x e f = and_from _ _ f (and_parts (p y) (list_all p xs) e).1
+list_all-set p (y ∷ xs) (suc i) x e f =
+    let h = and_parts (p y) (list_all p xs) e in
+    and_from _ _ h.0 (list_all-set p xs i x h.1 f)
+
+-- a test that each element passes is passed with one moved to the end
+pub list_all-moved : {X : Type 0} (p : X → Bool) (xs : List X) (i : ℕ) (d : X) → i < length xs → list_all p xs ≡ true → list_all p (remove xs i ++ get_or xs i d ∷ []) ≡ true
+list_all-moved p xs i d h e =
+    list_all-append p (remove xs i) (get_or xs i d ∷ [])
+    ∙ and_from _ _ (list_all-removed p xs i e) (and_from _ _ (and_parts _ _ (sym (ap (list_all p) (drop_more xs i d h)) ∙ (list_all-parts p i xs e).1)).0 refl)
+
+module _ {R : Type 0} (k : Kind R) (cs : List (Change R)) (l : List Pair) (old : Kept k queue cs l) where
+  few : length l ≤ pair_limit
+  few = leb-true (length l) pair_limit (and_parts _ _ old.listed).0
+
+  waits : list_all may_wait l ≡ true
+  waits = (and_parts (nat_le (length l) pair_limit) _ old.listed).1
+
+  pub kept-removed : (i : ℕ) → i < length l → Kept k queue (take (field_limit * i) cs ++ (drop (field_limit * i + field_limit) cs ++ replicate field_limit (held k same))) (remove l i)
+  kept-removed i h =
+      let at = field_limit * i in
+      record {
+        listed = and_from _ _ (le-leb (length (remove l i)) pair_limit (omega (arith, few, length-remove l i h))) (list_all-removed may_wait l i waits);
+        laid = ap (λ m. take at m ++ (drop (at + field_limit) m ++ map (held k) (replicate field_limit same))) old.laid ∙ map-ends (held k) at (at + field_limit) (queue.layout l) (replicate field_limit same) ∙ ap (map (held k)) (lays-removed pair_limit l waits i h few);
+      }
+
+  pub kept-pushed : (t : ℕ) (d : List rows.Change) → length l < pair_limit → is_tap t ≡ true → length d ≡ field_limit → all_same d ≡ false → Kept k queue (with_row (length l) (map (held k) d) cs) (l ++ pair t d ∷ [])
+  kept-pushed t d room tap whole some =
+      let at = field_limit * length l in
+      record {
+        listed = ap (λ m. queue.holds (l ++ m)) (sym (cond-false (all_same d) [] (pair t d ∷ []) some)) ∙ queue-lawful.put-held l t d (record { listed = old.listed; known = tap; whole = whole; taken = lt-ltb (length l) pair_limit room });
+        laid = ap (λ m. take at m ++ (map (held k) d ++ drop (at + field_limit) m)) old.laid ∙ map-rows (held k) at (at + field_limit) d (queue.layout l) ∙ ap (map (held k)) (lays-pushed pair_limit l waits t d whole room);
+      }
+
+module _ {R : Type 0} (k : Kind R) where
+  -- a queue that is not empty shows its first row
+  pub shows-first : (ts : List ℕ) (cs : List (Change R)) → 1 ≤ length ts → field_limit ≤ length cs → Kept k queue cs (pairs_in k ts cs) → take field_limit cs ≡ map (canonical k) (take field_limit cs)
+  shows-first [] cs some inside old = absurd (not-suc-le-zero some)
+  shows-first (t ∷ ts) cs some inside old =
+      let row = take field_limit cs in
+      let d = map (change_of k) row in
+      let wide : length d ≡ field_limit = length-map row (change_of k) ∙ length-take-le field_limit cs inside in
+      let l = pairs_in k (t ∷ ts) cs in
+      let layout = append_assoc d (deltas (pairs_in k ts (drop field_limit cs))) (replicate (field_limit * (pair_limit - length l)) same) in
+      ap (take field_limit) old.laid
+      ∙ take-map (held k) field_limit (queue.layout l)
+      ∙ ap (λ ds. map (held k) (take field_limit ds)) layout
+      ∙ ap (map (held k)) (take_at d _ field_limit wide)
+      ∙ sym (canonical-all k row)
+
+  pub drops-first : (ts : List ℕ) (cs : List (Change R)) → 1 ≤ length ts → drop_answer (pairs_in k ts cs) ≡ Ok tt
+  drops-first [] cs some = absurd (not-suc-le-zero some)
+  drops-first (t ∷ ts) cs some = refl
