@@ -1,3 +1,5 @@
 pub mod Parts
+pub mod Canonical
 pub mod Forgetting
 pub mod QueueRows
+pub mod MarksIn

@@ -1,7 +1,9 @@
 pub mod Limits
 pub mod Lists
+pub mod ListsLaws
 pub mod Policies
 pub mod Pairs
 pub mod Queues
 pub mod QueueLaws
 pub mod Marks
+pub mod MarksLaws

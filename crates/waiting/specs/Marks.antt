@@ -1,5 +1,5 @@
 -- Marks: one joined delta waits for a tap, and taps wait by rising number.
-use Rattle.std.specs.Prelude.{ℕ, zero, suc, ◌+◌, Bool, true, cond, ◌&&◌, List, [], ◌∷◌, ◌++◌, map, length, take, drop, flat_map, nat_lt}
+use Rattle.std.specs.Prelude.{ℕ, zero, suc, ◌+◌, Bool, true, cond, ◌&&◌, List, [], ◌∷◌, ◌++◌, map, take, drop, flat_map, nat_lt}
 use Rattle.std.specs.List.{list_all, range_with_len}
 use Rattle.row.specs.Kinds.{Kind}
 use Rattle.row.specs.Limits.{field_limit, tap_limit, cell_limit}

@@ -1,6 +1,11 @@
 // Marks: one joined delta waits for a tap, and taps wait by rising number.
-ghost use Rattle.std.specs.Prelude.{◌≡◌, length};
-ghost use Rattle.row.specs.Limits.{cell_limit};
+ghost use Rattle.std.specs.Prelude.{◌≡◌, ◌+◌, ◌<◌, [], map, length, Ok, IfSome, MatchOption};
+ghost use Rattle.row.specs.Limits.{cell_limit, tap_limit};
+ghost use Rattle.row.specs.Records.{change_of};
+ghost use Rattle.row.specs.Rows.{row_at};
+ghost use Rattle.waiting.specs.Lists.{pair};
+ghost use Rattle.waiting.specs.Marks.{marks_in};
+ghost use Rattle.waiting.specs.Policies.{first};
 
 use crate::buffer::{Pair, Unfit, Waiting};
 use crate::rows::{clear_row, copy_changes, join_row};
@@ -18,6 +23,8 @@ pub struct Marks<'a, R> {
 // The index of the first tap that waits.
 fn first_waiting<R: Value>(changes: &[Change<R>]) -> Option<usize>
     requires { length changes.now ≡ cell_limit }
+    ensures inside { IfSome result (λ i. i < tap_limit) }
+    ensures first { MatchOption result (marks_in R.kind tap_limit 1 changes.now ≡ []) (λ i. first (marks_in R.kind tap_limit 1 changes.now) ≡ Ok (pair (i + 1) (map (change_of R.kind) (row_at i changes.now)))) }
 {
     for i in 0..TAP_LIMIT {
         let at = FIELD_LIMIT * i;
@@ -31,6 +38,7 @@ fn first_waiting<R: Value>(changes: &[Change<R>]) -> Option<usize>
 // How many taps wait.
 fn count_waiting<R: Value>(changes: &[Change<R>]) -> usize
     requires { length changes.now ≡ cell_limit }
+    ensures { result ≡ length (marks_in R.kind tap_limit 1 changes.now) }
 {
     let mut count = 0;
     for i in 0..TAP_LIMIT {
@@ -43,8 +51,8 @@ fn count_waiting<R: Value>(changes: &[Change<R>]) -> usize
 }
 
 impl<'a, R: Value> Waiting<'a, R> for Marks<'a, R> {
-    ghost use Rattle.row.specs.Limits.{tap_limit};
-    ghost use Rattle.waiting.specs.Marks.{marks, marks_in};
+    ghost use Rattle.waiting.specs.Marks.{marks};
+    ghost use Rattle.waiting.specs.MarksLaws.{marks-lawful};
 
     ghost policy = { marks };
 
@@ -54,7 +62,7 @@ impl<'a, R: Value> Waiting<'a, R> for Marks<'a, R> {
 
     ghost lent = { λ m. m.changes.ghost_name };
 
-    ghost lawful = { ? };
+    ghost lawful = { marks-lawful };
 
     fn new(changes: &'a mut [Change<R>]) -> Result<Marks<'a, R>, Unfit<'a, R>> {
         if changes.len() != CELL_LIMIT {

@@ -1,0 +1,74 @@
+-- Rows among others, and changes by the records of their meaning.
+use Rattle.std.proofs.Common.{◌≡◌, ℕ, ◌+◌, ◌-◌, ◌*◌, ◌≤◌, List, [], ◌∷◌, ◌++◌, map, length, take, drop, sym, refl, ap, ◌∙◌, arith}
+use Rattle.std.proofs.lemmas.List.{length-append, length-drop, length-take-le, map-append, take-append-drop, take-map, drop-map, drop-drop}
+use Rattle.std.proofs.lemmas.Simd.{map-map}
+use Rattle.row.specs.Kinds.{Kind, Lawful}
+use Rattle.row.specs.Limits.{field_limit}
+use Rattle.row.specs.Records.{canonical, change_of, held, later}
+use Rattle.row.specs.Rows as rows
+use Rattle.row.specs.Rows.{join, over, row_at, same, with_row}
+use Rattle.row.specs.declared.change.Change.{Change}
+use Rattle.row.specs.declared.change.Mark.{Mark}
+use Rattle.row.specs.declared.change.Mark.TheVariants.{Same, Null, Value}
+use Rattle.row.proofs.Over.{join-means}
+
+module _ {X : Type 0} (i : ℕ) (places : List X) where
+  pub with_row-own : with_row i (row_at i places) places ≡ places
+  with_row-own =
+      ap (λ l. take (field_limit * i) places ++ (row_at i places ++ l)) (sym (drop-drop field_limit (field_limit * i) places))
+      ∙ ap (λ l. take (field_limit * i) places ++ l) (take-append-drop field_limit (drop (field_limit * i) places))
+      ∙ take-append-drop (field_limit * i) places
+
+  -- a row as the code cuts it out
+  pub row-read : take (field_limit * i + field_limit - field_limit * i) (drop (field_limit * i) places) ≡ row_at i places
+  row-read = let e : field_limit * i + field_limit - field_limit * i ≡ field_limit = omega arith in ap (λ n. take n (drop (field_limit * i) places)) e
+
+  pub length-row_at : field_limit * i + field_limit ≤ length places → length (row_at i places) ≡ field_limit
+  length-row_at h = length-take-le field_limit (drop (field_limit * i) places) (omega (arith, length-drop (field_limit * i) places))
+
+  pub length-with_row : (row : List X) → field_limit * i + field_limit ≤ length places → length row ≡ field_limit → length (with_row i row places) ≡ length places
+  length-with_row row h long =
+      let front = take (field_limit * i) places in
+      let back = drop (field_limit * i + field_limit) places in
+      omega (arith, long, length-append front (row ++ back), length-append row back, length-take-le (field_limit * i) places (omega arith), length-drop (field_limit * i + field_limit) places)
+
+pub map-with_row : {X Y : Type 0} (f : X → Y) (i : ℕ) (row places : List X) → map f (with_row i row places) ≡ with_row i (map f row) (map f places)
+map-with_row f i row places =
+    let front = take (field_limit * i) places in
+    let back = drop (field_limit * i + field_limit) places in
+    map-append f front (row ++ back)
+    ∙ ap (λ l. map f front ++ l) (map-append f row back)
+    ∙ (λ j. sym (take-map f (field_limit * i) places) j ++ (map f row ++ sym (drop-map f (field_limit * i + field_limit) places) j))
+
+pub length-over : {X Y : Type 0} (f : X → Y → X) (xs : List X) (ys : List Y) → length (over f xs ys) ≡ length xs
+length-over f [] ys = refl
+length-over f (x ∷ xs) [] = refl
+length-over f (x ∷ xs) (y ∷ ys) = omega (arith, length-over f xs ys)
+
+module _ {R : Type 0} (k : Kind R) where
+  pub canonical-map : (cs : List (Change R)) → map (canonical k) cs ≡ map (held k) (map (change_of k) cs)
+  canonical-map cs = sym (map-map (held k) (change_of k) cs)
+
+  pub canonical-part : (n m : ℕ) (cs : List (Change R)) → cs ≡ map (canonical k) cs → take n (drop m cs) ≡ map (canonical k) (take n (drop m cs))
+  canonical-part n m cs e = ap (λ l. take n (drop m l)) e ∙ ap (take n) (drop-map (canonical k) m cs) ∙ take-map (canonical k) n (drop m cs)
+
+  -- the records of rows and of what is around them
+  pub canonical-with_row : (i : ℕ) (row cs : List (Change R)) → row ≡ map (canonical k) row → cs ≡ map (canonical k) cs → with_row i row cs ≡ map (canonical k) (with_row i row cs)
+  canonical-with_row i row cs e f = (λ j. with_row i (e j) (f j)) ∙ sym (map-with_row (canonical k) i row cs)
+
+  module _ (law : Lawful k) where
+    means-held : (m : Mark) (r : R) → change_of k (canonical k (record { mark = m; raw = r })) ≡ change_of k (record { mark = m; raw = r })
+    means-held Same r = refl
+    means-held Null r = refl
+    means-held Value r = ap (λ t. rows.becomes (rows.value t)) (law.text-raw (k.text r) (law.text-allowed r))
+
+    -- a record that memory holds means the same as the one that it was made of
+    pub means-canonical : (cs : List (Change R)) → map (change_of k) (map (canonical k) cs) ≡ map (change_of k) cs
+    means-canonical cs = map-map (change_of k) (canonical k) cs ∙ (λ i. map (λ c. means-held c.mark c.raw i) cs)
+
+    pub canonical-canonical : (cs : List (Change R)) → map (canonical k) cs ≡ map (canonical k) (map (canonical k) cs)
+    canonical-canonical cs = canonical-map cs ∙ ap (map (held k)) (sym (means-canonical cs)) ∙ sym (canonical-map (map (canonical k) cs))
+
+    -- two rows joined and made canonical, as texts
+    pub joined-means : (cs ds : List (Change R)) → map (change_of k) (map (canonical k) (over later cs ds)) ≡ join (map (change_of k) cs) (map (change_of k) ds)
+    joined-means cs ds = means-canonical (over later cs ds) ∙ join-means k cs ds

@@ -1,0 +1,284 @@
+-- What waits by rows of memory, and what becomes of it when a row is replaced.
+use Rattle.std.proofs.Common.{◌≡◌, ℕ, zero, suc, ◌+◌, ◌-◌, ◌*◌, ◌<◌, ◌≤◌, Bool, true, false, not, List, [], ◌∷◌, ◌++◌, map, length, take, drop, replicate, cond, Ok, Err, subst, sym, refl, ap, ◌∙◌, append_assoc, arith}
+use Rattle.std.specs.Prelude.{flat_map, nat_lt, nat_le, ◌==◌, ◌&&◌}
+use Rattle.std.specs.List.{list_all, range_with_len}
+use Rattle.std.proofs.lemmas.Bool.{and_from, and_parts, cond-true, cond-false, eq-eqb, lt-ltb, le-ltb, le-leb, leb-true, ltb-true}
+use Rattle.std.proofs.Math.Nat.{add-zero}
+use Rattle.std.proofs.lemmas.List.{append-nil, length-drop, length-map, length-take-le, map-append, nil_from_length, take-append-drop, take-append-le, drop-append-le, take_at, drop_at, drop-drop}
+use Rattle.row.specs.Kinds.{Kind, Lawful}
+use Rattle.row.specs.Limits.{field_limit, tap_limit, cell_limit}
+use Rattle.row.specs.Records.{canonical, change_of, held, later}
+use Rattle.row.specs.Rows as rows
+use Rattle.row.specs.Rows.{same, over, join, all_same, row_at, with_row}
+use Rattle.row.specs.Taps.{is_tap, tap_numbered, absent_refusal}
+use Rattle.row.specs.declared.change.Change.{Change}
+use Rattle.waiting.specs.Lists.{Pair, pair, is_for, may_wait, joined, without, pair_of_changes}
+use Rattle.waiting.specs.ListsLaws.{filter_keep, filter_skip, join-onto, join-changing, blank-from, joined-other, may_wait-from, pair_cases, flat_map-range}
+use Rattle.waiting.specs.Marks.{rising, marked, marks, marks_in}
+use Rattle.waiting.specs.MarksLaws.{joined-above, joined-own, not_for, others_above, rising-cons, rising-less, rising-parts}
+use Rattle.waiting.specs.Policies.{Kept, first, put_list}
+use Rattle.waiting.proofs.Canonical.{row-read, with_row-own, length-row_at, length-with_row, length-over, canonical-map, canonical-with_row, canonical-canonical, joined-means}
+
+-- what waits for lower taps in front
+abbrev below : ℕ → List Pair → Bool
+below t = list_all (λ p. nat_lt p.tap t)
+
+marked-past : (t : ℕ) (d : List rows.Change) (front l : List Pair) → below t front ≡ true → marked (front ++ l) t d ≡ front ++ marked l t d
+marked-past t d [] l e = refl
+marked-past t d (p ∷ front) l e =
+    let h = and_parts (nat_lt p.tap t) _ e in
+    let lower = ltb-true p.tap t h.0 in
+    cond-false (is_for t p) _ _ (not_for t p (λ q. absurd (omega arith)))
+    ∙ cond-false (nat_lt t p.tap) _ _ (le-ltb t p.tap (omega arith))
+    ∙ ap (λ x. p ∷ x) (marked-past t d front l h.1)
+
+without-past : (t : ℕ) (front l : List Pair) → below t front ≡ true → without t (front ++ l) ≡ front ++ without t l
+without-past t [] l e = refl
+without-past t (p ∷ front) l e =
+    let h = and_parts (nat_lt p.tap t) _ e in
+    let lower = ltb-true p.tap t h.0 in
+    filter_keep (λ q. not (is_for t q)) p (front ++ l) (ap not (not_for t p (λ q. absurd (omega arith))))
+    ∙ ap (λ x. p ∷ x) (without-past t front l h.1)
+
+module _ (t : ℕ) (l : List Pair) (above : rising t l ≡ true) where
+  without-first : (x : List rows.Change) → without t (pair t x ∷ l) ≡ l
+  without-first x = filter_skip (λ q. not (is_for t q)) (pair t x) l (ap not (eq-eqb t t refl)) ∙ others_above t t l (omega arith) above
+
+  without-here : (x : List rows.Change) → without t (pair_of_changes t x ++ l) ≡ l
+  without-here x = pair_cases t x l (λ y. without t y ≡ l) (λ _. others_above t t l (omega arith) above) (λ _. without-first x)
+
+  marked-front : (d : List rows.Change) (m : List Pair) → m ≡ l → marked m t d ≡ pair_of_changes t d ++ m
+  marked-front d [] e = sym (append-nil (pair_of_changes t d))
+  marked-front d (p ∷ m) e =
+      let (higher, _) = rising-parts t p m (ap (rising t) e ∙ above) in
+      cond-false (is_for t p) _ _ (not_for t p (λ q. absurd (omega arith))) ∙ cond-true (nat_lt t p.tap) _ _ (lt-ltb t p.tap higher)
+
+  marked-here : (x d : List rows.Change) → length x ≡ length d → marked (pair_of_changes t x ++ l) t d ≡ pair_of_changes t (join x d) ++ l
+  marked-here x d h =
+      pair_cases t x l (λ y. marked y t d ≡ pair_of_changes t (join x d) ++ l)
+      (λ e. marked-front d l refl ∙ ap (λ y. pair_of_changes t y ++ l) (sym (join-onto x d e h)))
+      (λ e. cond-true (is_for t (pair t x)) _ _ (eq-eqb t t refl)
+      ∙ ap (λ y. y ++ l) (sym (cond-false (all_same (join x d)) _ _ (join-changing x d e))))
+
+-- removing the first pair's tap removes that pair
+first-removed : (n t : ℕ) (x : List rows.Change) (l : List Pair) → rising n l ≡ true → first l ≡ Ok (pair t x) → without t l ≡ drop 1 l
+first-removed n t x [] e f = cc
+first-removed n t x (p ∷ l) e f =
+    let same : p ≡ pair t x = cc in
+    let above : rising t l ≡ true = rising-less t p.tap l (omega (arith, ap (λ q. q.tap) same)) (rising-parts n p l e).1 in
+    ap (λ q. without t (q ∷ l)) same ∙ without-first t l above x
+
+numbered : (t n : ℕ) → Ok t ≡ tap_numbered n → t ≡ n
+numbered t n = from (is_tap n)
+  where
+    from : (b : Bool) → Ok t ≡ cond b (Ok n) (Err absent_refusal) → t ≡ n
+    from true e = cc
+    from false e = cc
+
+-- a tap's place among all
+pub tap_place : (t i : ℕ) → is_tap t ≡ true → i ≡ t - 1 → (i < tap_limit) × (1 + i ≡ t)
+tap_place t i known e =
+    let h = and_parts (nat_le 1 t) _ known in
+    let low = leb-true 1 t h.0 in
+    let high = leb-true t tap_limit h.1 in (omega arith, omega arith)
+
+module _ {R : Type 0} (k : Kind R) where
+  abbrev means : List (Change R) → List rows.Change
+  means cs = map (change_of k) cs
+
+  marks-rising : (n m t : ℕ) (cs : List (Change R)) → m < t → rising m (marks_in k n t cs) ≡ true
+  marks-rising zero m t cs h = refl
+  marks-rising (suc n) m t cs h =
+      let x = means (take field_limit cs) in
+      let rest = marks_in k n (t + 1) (drop field_limit cs) in
+      pair_cases t x rest (λ l. rising m l ≡ true) (λ _. marks-rising n m (t + 1) _ (omega arith))
+      (λ _. rising-cons m (pair t x) rest h (marks-rising n t (t + 1) _ (omega arith)))
+
+  marks-below : (n t u : ℕ) (cs : List (Change R)) → t + n ≤ u → below u (marks_in k n t cs) ≡ true
+  marks-below zero t u cs h = refl
+  marks-below (suc n) t u cs h =
+      let rest = marks-below n (t + 1) u (drop field_limit cs) (omega arith) in
+      pair_cases t (means (take field_limit cs)) _ (λ l. below u l ≡ true) (λ _. rest) (λ _. and_from _ _ (lt-ltb t u (omega arith)) rest)
+
+  -- the rows behind the first
+  length-rest : (n : ℕ) (cs : List (Change R)) → length cs ≡ field_limit * suc n → length (drop field_limit cs) ≡ field_limit * n
+  length-rest n cs h = length-drop field_limit cs ∙ omega arith
+
+  length-first : (n : ℕ) (cs : List (Change R)) → length cs ≡ field_limit * suc n → length (means (take field_limit cs)) ≡ field_limit
+  length-first n cs h = length-map (take field_limit cs) (change_of k) ∙ length-take-le field_limit cs (omega arith)
+
+  marks-wait : (n t : ℕ) (cs : List (Change R)) → 1 ≤ t → t + n ≤ tap_limit + 1 → length cs ≡ field_limit * n → list_all may_wait (marks_in k n t cs) ≡ true
+  marks-wait zero t cs low high long = refl
+  marks-wait (suc n) t cs low high long =
+      let x = means (take field_limit cs) in
+      let rest = marks-wait n (t + 1) (drop field_limit cs) (omega arith) (omega arith) (length-rest n cs long) in
+      pair_cases t x _ (λ l. list_all may_wait l ≡ true) (λ _. rest)
+      (λ e. and_from _ _ (may_wait-from t x (and_from _ _ (le-leb 1 t low) (le-leb t tap_limit (omega arith))) (length-first n cs long) e) rest)
+
+  marks-layout : (n t : ℕ) (cs : List (Change R)) → length cs ≡ field_limit * n → flat_map (λ u. joined u (marks_in k n t cs)) (range_with_len t n) ≡ means cs
+  marks-layout zero t cs long = ap means (sym (nil_from_length cs (omega arith)))
+  marks-layout (suc n) t cs long =
+      let x = means (take field_limit cs) in
+      let rest = marks_in k n (t + 1) (drop field_limit cs) in
+      let l = pair_of_changes t x ++ rest in
+      let above : rising t rest ≡ true = marks-rising n t (t + 1) _ (omega arith) in
+      let here : joined t l ≡ x =
+      pair_cases t x rest (λ y. joined t y ≡ x) (λ e. joined-above t t rest (omega arith) above ∙ blank-from x (length-first n cs long) e)
+      (λ _. joined-own t x rest (length-first n cs long) above) in
+      let others : (u : ℕ) → t + 1 ≤ u → joined u l ≡ joined u rest =
+      λ u h. pair_cases t x rest (λ y. joined u y ≡ joined u rest) (λ _. refl) (λ _. joined-other u (pair t x) rest (not_for u (pair t x) (λ q. absurd (omega arith)))) in
+      (λ i. here i ++ (flat_map-range (λ u. joined u l) (λ u. joined u rest) (t + 1) n others ∙ marks-layout n (t + 1) (drop field_limit cs) (length-rest n cs long)) i)
+      ∙ sym (map-append (change_of k) (take field_limit cs) (drop field_limit cs))
+      ∙ ap means (take-append-drop field_limit cs)
+
+  -- some rows and then others
+  marks-append : (i m n t : ℕ) (front back : List (Change R)) → n ≡ i + m → length front ≡ field_limit * i → marks_in k n t (front ++ back) ≡ marks_in k i t front ++ marks_in k m (t + i) back
+  marks-append zero m n t front back e long =
+      let same : n ≡ m = omega arith in
+      let none : front ≡ [] = nil_from_length front (omega arith) in
+      (λ j. marks_in k (same j) (sym (add-zero t) j) (none j ++ back))
+  marks-append (suc i) m n t front back e long =
+      let same : n ≡ suc (i + m) = omega arith in
+      let next : t + 1 + i ≡ t + suc i = omega arith in
+      let rest = drop field_limit front in
+      ap (λ j. marks_in k j t (front ++ back)) same
+      ∙ (λ j. pair_of_changes t (means (take-append-le field_limit front back (omega arith) j)) ++ marks_in k (i + m) (t + 1) (drop-append-le field_limit front back (omega arith) j))
+      ∙ ap (λ l. pair_of_changes t (means (take field_limit front)) ++ l) (marks-append i m (i + m) (t + 1) rest back refl (length-rest i front long) ∙ ap (λ u. marks_in k i (t + 1) rest ++ marks_in k m u back) next)
+      ∙ sym (append_assoc (pair_of_changes t (means (take field_limit front))) (marks_in k i (t + 1) rest) (marks_in k m (t + suc i) back))
+
+  module _ (n t i : ℕ) (cs : List (Change R)) (inside : i < n) (long : length cs ≡ field_limit * n) where
+    abbrev front : List Pair
+    front = marks_in k i t (take (field_limit * i) cs)
+
+    abbrev back : List Pair
+    back = marks_in k (n - (i + 1)) (t + i + 1) (drop (field_limit * i + field_limit) cs)
+
+    front-below : below (t + i) front ≡ true
+    front-below = marks-below i t (t + i) (take (field_limit * i) cs) (omega arith)
+
+    back-rising : rising (t + i) back ≡ true
+    back-rising = marks-rising (n - (i + 1)) (t + i) (t + i + 1) (drop (field_limit * i + field_limit) cs) (omega arith)
+
+    -- what waits before a row, for it and behind it
+    marks-split : (row : List (Change R)) → length row ≡ field_limit → marks_in k n t (with_row i row cs) ≡ front ++ (pair_of_changes (t + i) (means row) ++ back)
+    marks-split row h =
+        let rest = drop (field_limit * i + field_limit) cs in
+        marks-append i (suc (n - (i + 1))) n t (take (field_limit * i) cs) (row ++ rest) (omega arith) (length-take-le (field_limit * i) cs (omega arith))
+        ∙ (λ j. front ++ (pair_of_changes (t + i) (means (take_at row rest field_limit h j)) ++ marks_in k (n - (i + 1)) (t + i + 1) (drop_at row rest field_limit h j)))
+
+    long-row : length (row_at i cs) ≡ field_limit
+    long-row = length-row_at i cs (omega arith)
+
+    marks-was : marks_in k n t cs ≡ front ++ (pair_of_changes (t + i) (means (row_at i cs)) ++ back)
+    marks-was = ap (marks_in k n t) (sym (with_row-own i cs)) ∙ marks-split (row_at i cs) long-row
+
+    marks-joined : (row : List (Change R)) (d : List rows.Change) → length row ≡ field_limit → length d ≡ field_limit → means row ≡ join (means (row_at i cs)) d → marks_in k n t (with_row i row cs) ≡ marked (marks_in k n t cs) (t + i) d
+    marks-joined row d h l e =
+        let old = means (row_at i cs) in
+        let same : length old ≡ length d = length-map (row_at i cs) (change_of k) ∙ long-row ∙ sym l in
+        marks-split row h
+        ∙ ap (λ x. front ++ (pair_of_changes (t + i) x ++ back)) e
+        ∙ sym (ap (λ x. marked x (t + i) d) marks-was
+        ∙ marked-past (t + i) d front (pair_of_changes (t + i) old ++ back) front-below
+        ∙ ap (λ x. front ++ x) (marked-here (t + i) back back-rising old d same))
+
+    marks-cleared : (row : List (Change R)) → length row ≡ field_limit → all_same (means row) ≡ true → marks_in k n t (with_row i row cs) ≡ without (t + i) (marks_in k n t cs)
+    marks-cleared row h e =
+        let old = means (row_at i cs) in
+        marks-split row h
+        ∙ ap (λ x. front ++ (x ++ back)) (cond-true (all_same (means row)) _ _ e)
+        ∙ sym (ap (without (t + i)) marks-was
+        ∙ without-past (t + i) front (pair_of_changes (t + i) old ++ back) front-below
+        ∙ ap (λ x. front ++ x) (without-here (t + i) back back-rising old))
+
+    -- one row further
+    marks-next : marks_in k (n - i) (t + i) (drop (field_limit * i) cs) ≡ pair_of_changes (t + i) (means (row_at i cs)) ++ marks_in k (n - (i + 1)) (t + (i + 1)) (drop (field_limit * (i + 1)) cs)
+    marks-next =
+        let e : n - i ≡ suc (n - (i + 1)) = omega arith in
+        let u : t + i + 1 ≡ t + (i + 1) = omega arith in
+        let v : field_limit * i + field_limit ≡ field_limit * (i + 1) = omega arith in
+        let w : drop field_limit (drop (field_limit * i) cs) ≡ drop (field_limit * (i + 1)) cs = drop-drop field_limit (field_limit * i) cs ∙ ap (λ j. drop j cs) v in
+        ap (λ j. marks_in k j (t + i) (drop (field_limit * i) cs)) e
+        ∙ (λ j. pair_of_changes (t + i) (means (row_at i cs)) ++ marks_in k (n - (i + 1)) (u j) (w j))
+
+  -- what waits for the taps behind the first i
+  abbrev pub marks_from : ℕ → List (Change R) → List Pair
+  marks_from i cs = marks_in k (tap_limit - i) (1 + i) (drop (field_limit * i) cs)
+
+  -- b answers whether the row with index i is only same
+  module _ (i : ℕ) (cs : List (Change R)) (b : Bool) (inside : i < tap_limit) (long : length cs ≡ cell_limit) (test : b ≡ all_same (means (take (field_limit * i + field_limit - field_limit * i) (drop (field_limit * i) cs)))) where
+    row-test : all_same (means (row_at i cs)) ≡ b
+    row-test = sym (test ∙ ap (λ r. all_same (means r)) (row-read i cs))
+
+    pub marks_skip : b ≡ true → marks_from i cs ≡ marks_from (i + 1) cs
+    marks_skip e = marks-next tap_limit 1 i cs inside long ∙ ap (λ l. l ++ marks_from (i + 1) cs) (cond-true (all_same (means (row_at i cs))) _ _ (row-test ∙ e))
+
+    pub marks_some : b ≡ false → marks_from i cs ≡ pair (i + 1) (means (row_at i cs)) ∷ marks_from (i + 1) cs
+    marks_some e =
+        let u : 1 + i ≡ i + 1 = omega arith in
+        marks-next tap_limit 1 i cs inside long
+        ∙ ap (λ l. l ++ marks_from (i + 1) cs) (cond-false (all_same (means (row_at i cs))) _ _ (row-test ∙ e))
+        ∙ ap (λ t. pair t (means (row_at i cs)) ∷ marks_from (i + 1) cs) u
+
+  pub marks_all : (i : ℕ) (cs : List (Change R)) → tap_limit ≤ i → marks_from i cs ≡ []
+  marks_all i cs h = let e : tap_limit - i ≡ 0 = omega arith in ap (λ n. marks_in k n (1 + i) (drop (field_limit * i) cs)) e
+
+  -- the kind keeps the records of what each change means, and no more is asked
+  marks-kept : (cs : List (Change R)) → length cs ≡ cell_limit → cs ≡ map (canonical k) cs → Kept k marks cs (marks_in k tap_limit 1 cs)
+  marks-kept cs long e = record {
+    listed = and_from _ _ (marks-rising tap_limit 0 1 cs (omega arith)) (marks-wait tap_limit 1 cs (omega arith) (omega arith) long);
+    laid = e ∙ canonical-map k cs ∙ ap (map (held k)) (sym (marks-layout tap_limit 1 cs long));
+  }
+
+  pub kept-canonical : (cs : List (Change R)) → length cs ≡ cell_limit → Kept k marks cs (marks_in k tap_limit 1 cs) → cs ≡ map (canonical k) cs
+  kept-canonical cs long h = h.laid ∙ ap (map (held k)) (marks-layout tap_limit 1 cs long) ∙ sym (canonical-map k cs)
+
+  -- the pair that is shown
+  pub shown : (cs : List (Change R)) (i t : ℕ) (l : List Pair) → Ok t ≡ tap_numbered (i + 1) → first l ≡ Ok (pair (i + 1) (means (row_at i cs))) → Ok (pair t (means (take (field_limit * i + field_limit - field_limit * i) (drop (field_limit * i) cs)))) ≡ first l
+  shown cs i t l e found =
+      (λ j. Ok (pair (numbered t (i + 1) e j) (means (row-read i cs j)))) ∙ sym found
+
+  -- the rows of all taps after another row is put
+  module _ (cs new row : List (Change R)) (i : ℕ) (long : length cs ≡ cell_limit) (inside : i < tap_limit) (put : new ≡ with_row i row cs) (whole : length row ≡ field_limit) where
+    row-kept : row ≡ map (canonical k) row → Kept k marks cs (marks_in k tap_limit 1 cs) → Kept k marks new (marks_in k tap_limit 1 new)
+    row-kept e h =
+        subst (λ x. Kept k marks x (marks_in k tap_limit 1 x)) (sym put)
+        (marks-kept (with_row i row cs) (length-with_row i cs row (omega arith) whole ∙ long) (canonical-with_row k i row cs e (kept-canonical cs long h)))
+
+    row-cleared : all_same (means row) ≡ true → marks_in k tap_limit 1 new ≡ without (1 + i) (marks_in k tap_limit 1 cs)
+    row-cleared e = ap (marks_in k tap_limit 1) put ∙ marks-cleared tap_limit 1 i cs inside long row whole e
+
+    row-joined : (d : List rows.Change) → length d ≡ field_limit → means row ≡ join (means (row_at i cs)) d → marks_in k tap_limit 1 new ≡ marked (marks_in k tap_limit 1 cs) (1 + i) d
+    row-joined d l e = ap (marks_in k tap_limit 1) put ∙ marks-joined tap_limit 1 i cs inside long row d whole l e
+
+  module _ (cs new : List (Change R)) (i : ℕ) (long : length cs ≡ cell_limit) (inside : i < tap_limit) where
+    -- after `clear_row`
+    module _ (put : new ≡ with_row i (replicate field_limit (held k same)) cs) where
+      pub cleared-kept : Kept k marks cs (marks_in k tap_limit 1 cs) → Kept k marks new (marks_in k tap_limit 1 new)
+      cleared-kept = row-kept cs new (replicate field_limit (held k same)) i long inside put refl refl
+
+      pub cleared : (t : ℕ) → 1 + i ≡ t → marks_in k tap_limit 1 new ≡ without t (marks_in k tap_limit 1 cs)
+      cleared t e = row-cleared cs new (replicate field_limit (held k same)) i long inside put refl refl ∙ ap (λ u. without u (marks_in k tap_limit 1 cs)) e
+
+      pub cleared-first : first (marks_in k tap_limit 1 cs) ≡ Ok (pair (i + 1) (means (row_at i cs))) → marks_in k tap_limit 1 new ≡ drop 1 (marks_in k tap_limit 1 cs)
+      cleared-first f =
+          cleared (i + 1) (omega arith)
+          ∙ first-removed 0 (i + 1) (means (row_at i cs)) (marks_in k tap_limit 1 cs) (marks-rising tap_limit 0 1 cs (omega arith)) f
+
+    -- after `join_row`
+    module _ (law : Lawful k) (delta : List (Change R)) (whole : length delta ≡ field_limit) (put : new ≡ with_row i (map (canonical k) (over later (row_at i cs) delta)) cs) where
+      long-joined : length (map (canonical k) (over later (row_at i cs) delta)) ≡ field_limit
+      long-joined =
+          length-map (over later (row_at i cs) delta) (canonical k)
+          ∙ length-over later (row_at i cs) delta
+          ∙ length-row_at i cs (omega arith)
+
+      pub joined-kept : Kept k marks cs (marks_in k tap_limit 1 cs) → Kept k marks new (marks_in k tap_limit 1 new)
+      joined-kept = row-kept cs new (map (canonical k) (over later (row_at i cs) delta)) i long inside put long-joined (canonical-canonical k law (over later (row_at i cs) delta))
+
+      pub joined-list : (t : ℕ) → 1 + i ≡ t → marks_in k tap_limit 1 new ≡ put_list marks (marks_in k tap_limit 1 cs) t (means delta)
+      joined-list t e =
+          let fits : length (means delta) ≡ field_limit = length-map delta (change_of k) ∙ whole in
+          row-joined cs new (map (canonical k) (over later (row_at i cs) delta)) i long inside put long-joined (means delta) fits (joined-means k law (row_at i cs) delta)
+          ∙ ap (λ u. marked (marks_in k tap_limit 1 cs) u (means delta)) e
+          ∙ sym (cond-true (length (means delta) == field_limit && true) _ _ (and_from _ _ (eq-eqb (length (means delta)) field_limit fits) refl))

@@ -1,0 +1,174 @@
+-- The laws of marks.
+use Rattle.std.specs.Prelude.{◌≡◌, ◌≢◌, ℕ, zero, suc, ◌+◌, ◌<◌, ◌≤◌, Bool, true, false, not, cond, List, [], ◌∷◌, ◌++◌, map, length, fold, filter, flat_map, sum_by, nat_lt, nat_le}
+use Rattle.std.proofs.Common.{sym, refl, ap, ◌∙◌, ⊎_elim, arith}
+use Rattle.std.proofs.Math.Nat.{zero-add}
+use Rattle.std.specs.List.{list_all, range_with_len}
+use Rattle.std.proofs.lemmas.Bool.{and_from, and_parts, cases_order, cond_both, cond-true, eq-eqb, eqb-true, eqb-false, ne_eqb, lt-ltb, ltb-true, ltb-false, leb-true}
+use Rattle.std.proofs.lemmas.List.{append-nil}
+use Rattle.std.proofs.lemmas.List.Sums.{sum_by-cons}
+use Rattle.row.specs.Limits.{field_limit, tap_limit}
+use Rattle.row.specs.Rows.{Change, join, blank, all_same}
+use Rattle.row.specs.Taps.{is_tap}
+use Rattle.waiting.specs.Lists.{Pair, pair, is_for, may_wait, joined, without, changing, pair_of_changes}
+use Rattle.waiting.specs.ListsLaws.{length-join, join-same, join-blank, join-changing, filter_keep, filter_skip, list_all-filter, pair_cases, joined-cons, joined-other, waits, may_wait-from, changing-append, flat_map-range}
+use Rattle.waiting.specs.Marks.{rising, marked, marks}
+use Rattle.waiting.specs.Policies.{Lawful}
+
+pub not_for : (t : ℕ) (p : Pair) → p.tap ≢ t → is_for t p ≡ false
+not_for t p ne = ne_eqb p.tap t ne
+
+-- where a delta goes among what waits
+marked_cases : (p : Pair) (l : List Pair) (t : ℕ) (d : List Change) (P : List Pair → Type 0) → (p.tap ≡ t → P (pair t (join p.delta d) ∷ l)) → (t < p.tap → P (pair_of_changes t d ++ p ∷ l)) → (p.tap < t → P (p ∷ marked l t d)) → P (marked (p ∷ l) t d)
+marked_cases p l t d P own before behind =
+    cond_both (is_for t p) _ _ P (λ e. own (eqb-true p.tap t e))
+    (λ ne. cond_both (nat_lt t p.tap) _ _ P (λ e. before (ltb-true t p.tap e)) (λ ge. behind (omega (arith, ltb-false t p.tap ge, eqb-false p.tap t ne))))
+
+pub rising-cons : (n : ℕ) (p : Pair) (l : List Pair) → n < p.tap → rising p.tap l ≡ true → rising n (p ∷ l) ≡ true
+rising-cons n p l h e = and_from _ _ (lt-ltb n p.tap h) e
+
+pub rising-parts : (n : ℕ) (p : Pair) (l : List Pair) → rising n (p ∷ l) ≡ true → (n < p.tap) × (rising p.tap l ≡ true)
+rising-parts n p l e = let h = and_parts (nat_lt n p.tap) _ e in (ltb-true n p.tap h.0, h.1)
+
+pub rising-less : (m n : ℕ) (l : List Pair) → m ≤ n → rising n l ≡ true → rising m l ≡ true
+rising-less m n [] h e = refl
+rising-less m n (p ∷ l) h e = let (above, rest) = rising-parts n p l e in rising-cons m p l (omega arith) rest
+
+rising-filter : (q : Pair → Bool) (n : ℕ) (l : List Pair) → rising n l ≡ true → rising n (filter q l) ≡ true
+rising-filter q n [] e = refl
+rising-filter q n (p ∷ l) e =
+    let (above, rest) = rising-parts n p l e in
+    cond_both (q p) _ _ (λ x. rising n x ≡ true) (λ _. rising-cons n p (filter q l) above (rising-filter q p.tap l rest))
+    (λ _. rising-filter q n l (rising-less n p.tap l (omega arith) rest))
+
+-- above a tap there is none of its own
+none_above : (t n : ℕ) (l : List Pair) → t ≤ n → rising n l ≡ true → filter (is_for t) l ≡ []
+none_above t n [] h e = refl
+none_above t n (p ∷ l) h e =
+    let (above, rest) = rising-parts n p l e in
+    filter_skip (is_for t) p l (not_for t p (λ q. absurd (omega arith))) ∙ none_above t p.tap l (omega arith) rest
+
+pub others_above : (t n : ℕ) (l : List Pair) → t ≤ n → rising n l ≡ true → without t l ≡ l
+others_above t n [] h e = refl
+others_above t n (p ∷ l) h e =
+    let (above, rest) = rising-parts n p l e in
+    filter_keep (λ q. not (is_for t q)) p l (ap not (not_for t p (λ q. absurd (omega arith))))
+    ∙ ap (λ x. p ∷ x) (others_above t p.tap l (omega arith) rest)
+
+pub joined-above : (t n : ℕ) (l : List Pair) → t ≤ n → rising n l ≡ true → joined t l ≡ blank
+joined-above t n l h e = ap (λ x. fold join blank (map (λ q. q.delta) x)) (none_above t n l h e)
+
+-- a tap's only pair
+pub joined-own : (t : ℕ) (d : List Change) (l : List Pair) → length d ≡ field_limit → rising t l ≡ true → joined t (pair t d ∷ l) ≡ d
+joined-own t d l h e =
+    joined-cons t (pair t d) l (eq-eqb t t refl)
+    ∙ ap (λ x. fold join (join blank d) (map (λ q. q.delta) x)) (none_above t t l (omega arith) e)
+    ∙ join-blank d h
+
+pair-is : (p : Pair) (t : ℕ) → p.tap ≡ t → p ≡ pair t p.delta
+pair-is p t e = ap (λ u. pair u p.delta) e
+
+module _ (t : ℕ) (d : List Change) (long : length d ≡ field_limit) where
+  joins-before : (l : List Pair) → rising t l ≡ true → joined t (pair_of_changes t d ++ l) ≡ join (joined t l) d
+  joins-before l e =
+      pair_cases t d l (λ x. joined t x ≡ join (joined t l) d) (λ s. sym (join-same (joined t l) d s))
+      (λ _. joined-own t d l long e ∙ sym (ap (λ x. join x d) (joined-above t t l (omega arith) e) ∙ join-blank d long))
+
+  joins : (n : ℕ) (l : List Pair) → rising n l ≡ true → list_all may_wait l ≡ true → joined t (marked l t d) ≡ join (joined t l) d
+  joins n [] e w = ap (joined t) (sym (append-nil (pair_of_changes t d))) ∙ joins-before [] refl
+  joins n (p ∷ l) e w =
+      let (above, rest) = rising-parts n p l e in
+      let m = waits p l w in
+      marked_cases p l t d (λ x. joined t x ≡ join (joined t (p ∷ l)) d)
+      (λ own. let behind : rising t l ≡ true = rising-less t p.tap l (omega arith) rest in
+      joined-own t (join p.delta d) l (length-join p.delta d ∙ m.long) behind
+      ∙ sym (ap (λ x. join x d) (ap (λ q. joined t (q ∷ l)) (pair-is p t own) ∙ joined-own t p.delta l m.long behind)))
+      (λ before. joins-before (p ∷ l) (rising-cons t p l before rest))
+      (λ behind. let other = not_for t p (λ q. absurd (omega arith)) in
+      joined-other t p (marked l t d) other ∙ joins p.tap l rest m.rest ∙ sym (ap (λ x. join x d) (joined-other t p l other)))
+
+  -- marks of a tap stay what they are to the others
+  leaves-others : (u : ℕ) → u ≢ t → (l : List Pair) → filter (is_for u) (marked l t d) ≡ filter (is_for u) l
+  leaves-others u ne [] = cond_both (all_same d) _ _ (λ x. filter (is_for u) x ≡ []) (λ _. refl) (λ _. filter_skip (is_for u) (pair t d) [] (not_for u (pair t d) (λ q. ne (sym q))))
+  leaves-others u ne (p ∷ l) =
+      marked_cases p l t d (λ x. filter (is_for u) x ≡ filter (is_for u) (p ∷ l))
+      (λ own. filter_skip (is_for u) (pair t (join p.delta d)) l (not_for u (pair t d) (λ q. ne (sym q))) ∙ sym (filter_skip (is_for u) p l (not_for u p (λ q. ne (sym q ∙ own)))))
+      (λ before. pair_cases t d (p ∷ l) (λ x. filter (is_for u) x ≡ filter (is_for u) (p ∷ l)) (λ _. refl) (λ _. filter_skip (is_for u) (pair t d) (p ∷ l) (not_for u (pair t d) (λ q. ne (sym q)))))
+      (λ behind. ap (λ x. cond (is_for u p) (p ∷ x) x) (leaves-others u ne l))
+
+  grows : (l : List Pair) → length (marked l t d) ≤ length l + 1
+  grows [] = cond_both (all_same d) _ _ (λ x. length x ≤ 1) (λ _. omega arith) (λ _. omega arith)
+  grows (p ∷ l) =
+      marked_cases p l t d (λ x. length x ≤ length (p ∷ l) + 1) (λ _. omega arith)
+      (λ _. pair_cases t d (p ∷ l) (λ x. length x ≤ length (p ∷ l) + 1) (λ _. omega arith) (λ _. omega arith))
+      (λ _. omega (arith, grows l))
+
+  passes-same : all_same d ≡ true → (l : List Pair) → marked l t d ≡ l
+  passes-same e [] = cond-true (all_same d) _ _ e
+  passes-same e (p ∷ l) =
+      marked_cases p l t d (λ x. x ≡ p ∷ l) (λ own. ap (λ x. pair t x ∷ l) (join-same p.delta d e) ∙ ap (λ q. q ∷ l) (sym (pair-is p t own)))
+      (λ _. ap (λ x. x ++ p ∷ l) (cond-true (all_same d) _ _ e)) (λ _. ap (λ x. p ∷ x) (passes-same e l))
+
+  stays-rising : (n : ℕ) → n < t → (l : List Pair) → rising n l ≡ true → rising n (marked l t d) ≡ true
+  stays-rising n h [] e = cond_both (all_same d) _ _ (λ x. rising n x ≡ true) (λ _. refl) (λ _. rising-cons n (pair t d) [] h refl)
+  stays-rising n h (p ∷ l) e =
+      let (above, rest) = rising-parts n p l e in
+      marked_cases p l t d (λ x. rising n x ≡ true)
+      (λ own. rising-cons n (pair t (join p.delta d)) l h (rising-less t p.tap l (omega arith) rest))
+      (λ before. pair_cases t d (p ∷ l) (λ x. rising n x ≡ true) (λ _. e) (λ _. rising-cons n (pair t d) (p ∷ l) h (rising-cons t p l before rest)))
+      (λ behind. rising-cons n p (marked l t d) above (stays-rising p.tap behind l rest))
+
+  stays-waiting : is_tap t ≡ true → (l : List Pair) → list_all may_wait l ≡ true → list_all may_wait (marked l t d) ≡ true
+  stays-waiting known [] e = cond_both (all_same d) _ _ (λ x. list_all may_wait x ≡ true) (λ _. refl) (λ o. and_from _ _ (may_wait-from t d known long o) refl)
+  stays-waiting known (p ∷ l) e =
+      let m = waits p l e in
+      marked_cases p l t d (λ x. list_all may_wait x ≡ true)
+      (λ _. and_from _ _ (may_wait-from t (join p.delta d) known (length-join p.delta d ∙ m.long) (join-changing p.delta d m.changing)) m.rest)
+      (λ _. pair_cases t d (p ∷ l) (λ x. list_all may_wait x ≡ true) (λ _. e) (λ o. and_from _ _ (may_wait-from t d known long o) e))
+      (λ _. and_from _ _ m.first (stays-waiting known l m.rest))
+
+-- the taps from m + 1 on
+lays : (n m : ℕ) → m + n ≡ tap_limit → (l : List Pair) → rising m l ≡ true → list_all may_wait l ≡ true → changing (flat_map (λ t. joined t l) (range_with_len (m + 1) n)) ≡ sum_by (λ p. changing p.delta) l
+lays zero m h [] e w = refl
+lays zero m h (p ∷ l) e w =
+    let (above, _) = rising-parts m p l e in
+    let known = and_parts (nat_le 1 p.tap) (nat_le p.tap tap_limit) (waits p l w).known in
+    absurd (omega (arith, leb-true p.tap tap_limit known.1))
+lays (suc n) m h [] e w =
+    let rest = flat_map (λ t. joined t []) (range_with_len (m + 1 + 1) n) in
+    changing-append blank rest ∙ zero-add _ ∙ lays n (m + 1) (omega arith) [] refl refl
+lays (suc n) m h (p ∷ l) e w =
+    let (above, higher) = rising-parts m p l e in
+    let waiting = waits p l w in
+    let rest = λ (l : List Pair). flat_map (λ t. joined t l) (range_with_len (m + 1 + 1) n) in
+    changing-append (joined (m + 1) (p ∷ l)) (rest (p ∷ l))
+    ∙ ⊎_elim
+    (λ own. let behind : rising (m + 1) l ≡ true = rising-less (m + 1) p.tap l (omega arith) higher in
+    let here : joined (m + 1) (p ∷ l) ≡ p.delta = ap (λ q. joined (m + 1) (q ∷ l)) (pair-is p (m + 1) own) ∙ joined-own (m + 1) p.delta l waiting.long behind in
+    let others : rest (p ∷ l) ≡ rest l = flat_map-range _ _ (m + 1 + 1) n (λ u h. joined-other u p l (not_for u p (λ q. absurd (omega arith)))) in
+    (λ i. changing (here i) + changing (others i))
+    ∙ ap (λ x. changing p.delta + x) (lays n (m + 1) (omega arith) l behind waiting.rest)
+    ∙ sym (sum_by-cons (λ p. changing p.delta) p l))
+    (⊎_elim (λ below. absurd (omega arith))
+    (λ past. let e : rising (m + 1) (p ∷ l) ≡ true = rising-cons (m + 1) p l past higher in
+    ap (λ x. changing x + changing (rest (p ∷ l))) (joined-above (m + 1) (m + 1) (p ∷ l) (omega arith) e)
+    ∙ zero-add _
+    ∙ lays n (m + 1) (omega arith) (p ∷ l) e w))
+    (cases_order p.tap (m + 1))
+
+pub marks-lawful : Lawful marks
+marks-lawful = record {
+  empty-takes = λ t. refl;
+  joins = λ l t d h. let w = and_parts (rising 0 l) _ h.listed in joins t d h.whole 0 l w.0 w.1;
+  leaves-others = λ l t d h u ne. ap (λ x. fold join blank (map (λ q. q.delta) x)) (leaves-others t d h.whole u ne l);
+  grows = λ l t d h. grows t d h.whole l;
+  passes-same = λ l t d h e. passes-same t d h.whole e l;
+  may-wait = λ l e. (and_parts (rising 0 l) _ e).1;
+  empty-held = refl;
+  put-held = λ l t d h. let w = and_parts (rising 0 l) _ h.listed in
+      and_from _ _ (stays-rising t d h.whole 0 (leb-true 1 t (and_parts _ (nat_le t tap_limit) h.known).0) l w.0) (stays-waiting t d h.whole h.known l w.1);
+  rest-held = λ p l e. let w = and_parts (rising 0 (p ∷ l)) _ e in
+      and_from _ _ (rising-less 0 p.tap l (omega arith) (rising-parts 0 p l w.0).1) (waits p l w.1).rest;
+  without-held = λ l t e. let w = and_parts (rising 0 l) _ e in and_from _ _ (rising-filter _ 0 l w.0) (list_all-filter may_wait _ l w.1);
+  lays-list = λ l e. let w = and_parts (rising 0 l) _ e in lays tap_limit 0 refl l w.0 w.1;
+  empty-layout = refl;
+}
