@@ -1,7 +1,7 @@
 -- The pairs of a queue, by the rows of its memory.
 use Rattle.std.proofs.Common.{◌≡◌, ℕ, zero, suc, ◌+◌, ◌-◌, ◌*◌, ◌<◌, ◌≤◌, Bool, true, false, nat_le, get_or, set, slice_set, List, [], ◌∷◌, ◌++◌, map, length, take, drop, replicate, Ok, sym, refl, ap, ◌∙◌, take-add, arith, append_assoc, not-suc-le-zero}
 use Rattle.std.specs.List.{list_all, remove}
-use Rattle.std.proofs.lemmas.Bool.{and_parts, and_from, eqb-true, leb-true, le-leb, lt-ltb, cond-false}
+use Rattle.std.proofs.lemmas.Bool.{and_parts, and_from, leb-true, le-leb, lt-ltb, cond-false}
 use Rattle.std.proofs.lemmas.List.Folds.{list_all-append}
 use Rattle.std.proofs.lemmas.List.{length-append, length-drop, length-take-le, map-append, replicate-append-replicate, take_at, drop_at, drop-drop, take-append-le, drop-append-le, drop-replicate, take-map, drop-map, append-nil, take-append-drop, drop_more, length-map, take_more_set, get_or-take}
 use Rattle.std.proofs.lemmas.Grind.{flat_map-append}
@@ -13,13 +13,13 @@ use Rattle.row.specs.Rows as rows
 use Rattle.row.specs.Rows.{becomes, value, same, all_same, with_row}
 use Rattle.row.specs.Taps.{is_tap}
 use Rattle.row.specs.declared.change.Change.{Change}
-use Rattle.row.specs.declared.change.Mark.{Mark}
-use Rattle.row.specs.declared.change.Mark.TheVariants.{Same, Null, Value}
 use Rattle.waiting.specs.Limits.{pair_limit}
 use Rattle.waiting.specs.Lists.{Pair, pair, may_wait, deltas}
+use Rattle.waiting.specs.ListsLaws.{waits}
 use Rattle.waiting.specs.Policies.{Kept, drop_answer}
 use Rattle.waiting.specs.QueueLaws.{queue-lawful}
 use Rattle.waiting.specs.Queues.{pairs_in, queue, queue_of}
+use Rattle.waiting.proofs.Canonical.{canonical-map, means-canonical}
 
 module _ {X : Type 0} (xs : List X) where
   next : (i : ℕ) → field_limit * suc i ≡ field_limit + field_limit * i
@@ -84,25 +84,20 @@ module _ {R : Type 0} (k : Kind R) where
       ∙ first-row t (remove ts i) (take field_limit cs) _ (length-take-le field_limit cs (omega arith))
       ∙ ap (λ l. pair t (map (change_of k) (take field_limit cs)) ∷ l) (pairs-removed ts i (drop field_limit cs) more (omega arith) (omega (arith, length-drop field_limit cs)))
 
-wide : (p : Pair) (l : List Pair) → list_all may_wait (p ∷ l) ≡ true → (length p.delta ≡ field_limit) × (list_all may_wait l ≡ true)
-wide p l e =
-    let h = and_parts (may_wait p) (list_all may_wait l) e in
-    (eqb-true (length p.delta) field_limit (and_parts _ _ (and_parts _ _ h.0).1).0, h.1)
-
 pub length-deltas : (l : List Pair) → list_all may_wait l ≡ true → length (deltas l) ≡ field_limit * length l
 length-deltas [] e = refl
 length-deltas (p ∷ l) e =
-    let h = wide p l e in
-    omega (arith, length-append p.delta (deltas l), h.0, length-deltas l h.1)
+    let w = waits p l e in
+    omega (arith, length-append p.delta (deltas l), w.long, length-deltas l w.rest)
 
 deltas-removed : (l : List Pair) (i : ℕ) → list_all may_wait l ≡ true → i < length l → take (field_limit * i) (deltas l) ++ drop (field_limit * i + field_limit) (deltas l) ≡ deltas (remove l i)
 deltas-removed [] i e h = absurd (not-suc-le-zero h)
-deltas-removed (p ∷ l) zero e h = drop_at p.delta (deltas l) field_limit (wide p l e).0
+deltas-removed (p ∷ l) zero e h = drop_at p.delta (deltas l) field_limit (waits p l e).long
 deltas-removed (p ∷ l) (suc i) e h =
-    let w = wide p l e in
+    let w = waits p l e in
     between-rows (deltas (p ∷ l)) i field_limit []
-    ∙ (λ j. take_at p.delta (deltas l) field_limit w.0 j ++ (take (field_limit * i) (drop_at p.delta (deltas l) field_limit w.0 j) ++ drop (field_limit * i + field_limit) (drop_at p.delta (deltas l) field_limit w.0 j)))
-    ∙ ap (λ ds. p.delta ++ ds) (deltas-removed l i w.1 (omega arith))
+    ∙ (λ j. take_at p.delta (deltas l) field_limit w.long j ++ (take (field_limit * i) (drop_at p.delta (deltas l) field_limit w.long j) ++ drop (field_limit * i + field_limit) (drop_at p.delta (deltas l) field_limit w.long j)))
+    ∙ ap (λ ds. p.delta ++ ds) (deltas-removed l i w.rest (omega arith))
 
 -- the taps of a queue behind one that is removed
 taps-removed : (ts : List ℕ) (i n x : ℕ) → i ≤ n → suc n ≤ length ts → take n (remove ts i ++ x ∷ []) ≡ remove (take (suc n) ts) i
@@ -121,21 +116,7 @@ queue-removed k (suc n) i x taps turned cs moved more h few inside ts ms =
     ∙ ap (λ l. pairs_in k l (take (field_limit * i) cs ++ (drop (field_limit * i + field_limit) cs ++ more))) (taps-removed taps i n x (omega arith) few)
     ∙ pairs-removed k (take (suc n) taps) i cs more (omega (arith, long)) (omega (arith, long))
 
-pub canonical-all : {R : Type 0} (k : Kind R) (ds : List (Change R)) → map (canonical k) ds ≡ map (held k) (map (change_of k) ds)
-canonical-all k [] = refl
-canonical-all k (d ∷ ds) = ap (λ l. canonical k d ∷ l) (canonical-all k ds)
-
--- the record of a change means what the change means
 module _ {R : Type 0} (k : Kind R) (law : Lawful k) where
-  canonical-by : (m : Mark) (r : R) → change_of k (canonical k (record { mark = m; raw = r })) ≡ change_of k (record { mark = m; raw = r })
-  canonical-by Same r = refl
-  canonical-by Null r = refl
-  canonical-by Value r = ap (λ t. becomes (value t)) (law.text-raw (k.text r) (law.text-allowed r))
-
-  pub canonical-means : (ds : List (Change R)) → map (change_of k) (map (canonical k) ds) ≡ map (change_of k) ds
-  canonical-means [] = refl
-  canonical-means (d ∷ ds) = λ i. canonical-by d.mark d.raw i ∷ canonical-means ds i
-
   -- the pairs of a queue behind a push, by what its taps and its memory then are
   pub queue-pushed : (len t : ℕ) (taps : List ℕ) (cs delta moved : List (Change R)) → len < length taps → field_limit * len + field_limit ≤ length cs → length delta ≡ field_limit → moved ≡ with_row len (map (canonical k) delta) cs → pairs_in k (take (len + 1) (slice_set taps len t)) moved ≡ pairs_in k (take len taps) cs ++ pair t (map (change_of k) delta) ∷ []
   queue-pushed len t taps cs delta moved h inside whole ms =
@@ -145,7 +126,7 @@ module _ {R : Type 0} (k : Kind R) (law : Lawful k) where
       (λ j. pairs_in k (take_more_set taps len t h j) (ms j))
       ∙ ap (λ n. pairs_in k (take len taps ++ t ∷ []) (with_row n row cs)) (sym long)
       ∙ pairs-pushed k (take len taps) t row cs wide (omega (arith, long))
-      ∙ ap (λ d. pairs_in k (take len taps) cs ++ pair t d ∷ []) (canonical-means delta)
+      ∙ ap (λ d. pairs_in k (take len taps) cs ++ pair t d ∷ []) (means-canonical k law delta)
 
 map-rows : {X Y : Type 0} (f : X → Y) (i m : ℕ) (ys xs : List X) → take i (map f xs) ++ (map f ys ++ drop m (map f xs)) ≡ map f (take i xs ++ (ys ++ drop m xs))
 map-rows f i m ys xs =
@@ -159,17 +140,17 @@ map-ends f i m xs ys =
     ∙ ap (λ l. map f (take i xs) ++ l) (sym (map-append f (drop m xs) ys))
     ∙ sym (map-append f (take i xs) (drop m xs ++ ys))
 
-module _ (limit : ℕ) (l : List Pair) (waits : list_all may_wait l ≡ true) where
+module _ (limit : ℕ) (l : List Pair) (waiting : list_all may_wait l ≡ true) where
   abbrev rest : List rows.Change
   rest = replicate (field_limit * (limit - length l)) same
 
   pub lays-pushed : (t : ℕ) (d : List rows.Change) → length d ≡ field_limit → length l < limit → with_row (length l) d ((queue_of limit).layout l) ≡ (queue_of limit).layout (l ++ pair t d ∷ [])
   lays-pushed t d whole room =
       let at = field_limit * length l in
-      let before : take at (deltas l ++ rest) ≡ deltas l = take_at (deltas l) rest at (length-deltas l waits) in
+      let before : take at (deltas l ++ rest) ≡ deltas l = take_at (deltas l) rest at (length-deltas l waiting) in
       let behind : drop (at + field_limit) (deltas l ++ rest) ≡ replicate (field_limit * (limit - length (l ++ pair t d ∷ []))) same =
       sym (drop-drop field_limit at (deltas l ++ rest))
-      ∙ ap (drop field_limit) (drop_at (deltas l) rest at (length-deltas l waits))
+      ∙ ap (drop field_limit) (drop_at (deltas l) rest at (length-deltas l waiting))
       ∙ drop-replicate field_limit (field_limit * (limit - length l)) same
       ∙ ap (λ n. replicate n same) (omega (arith, length-append l (pair t d ∷ []))) in
       (λ i. before i ++ (d ++ behind i))
@@ -178,13 +159,13 @@ module _ (limit : ℕ) (l : List Pair) (waits : list_all may_wait l ≡ true) wh
 
   pub lays-removed : (i : ℕ) → i < length l → length l ≤ limit → take (field_limit * i) ((queue_of limit).layout l) ++ (drop (field_limit * i + field_limit) ((queue_of limit).layout l) ++ replicate field_limit same) ≡ (queue_of limit).layout (remove l i)
   lays-removed i h few =
-      let long = length-deltas l waits in
+      let long = length-deltas l waiting in
       let at = field_limit * i in
       let fewer : field_limit * (limit - length l) + field_limit ≡ field_limit * (limit - length (remove l i)) = omega (arith, length-remove l i h) in
       (λ j. take-append-le at (deltas l) rest (omega arith) j ++ (drop-append-le (at + field_limit) (deltas l) rest (omega arith) j ++ replicate field_limit same))
       ∙ ap (λ ds. take at (deltas l) ++ ds) (append_assoc (drop (at + field_limit) (deltas l)) rest (replicate field_limit same))
       ∙ sym (append_assoc (take at (deltas l)) (drop (at + field_limit) (deltas l)) (rest ++ replicate field_limit same))
-      ∙ (λ j. deltas-removed l i waits h j ++ (replicate-append-replicate (field_limit * (limit - length l)) field_limit same ∙ ap (λ n. replicate n same) fewer) j)
+      ∙ (λ j. deltas-removed l i waiting h j ++ (replicate-append-replicate (field_limit * (limit - length l)) field_limit same ∙ ap (λ n. replicate n same) fewer) j)
 
 list_all-parts : {X : Type 0} (p : X → Bool) (n : ℕ) (xs : List X) → list_all p xs ≡ true → (list_all p (take n xs) ≡ true) × (list_all p (drop n xs) ≡ true)
 list_all-parts p n xs e =
@@ -211,15 +192,15 @@ module _ {R : Type 0} (k : Kind R) (cs : List (Change R)) (l : List Pair) (old :
   few : length l ≤ pair_limit
   few = leb-true (length l) pair_limit (and_parts _ _ old.listed).0
 
-  waits : list_all may_wait l ≡ true
-  waits = (and_parts (nat_le (length l) pair_limit) _ old.listed).1
+  waiting : list_all may_wait l ≡ true
+  waiting = (and_parts (nat_le (length l) pair_limit) _ old.listed).1
 
   pub kept-removed : (i : ℕ) → i < length l → Kept k queue (take (field_limit * i) cs ++ (drop (field_limit * i + field_limit) cs ++ replicate field_limit (held k same))) (remove l i)
   kept-removed i h =
       let at = field_limit * i in
       record {
-        listed = and_from _ _ (le-leb (length (remove l i)) pair_limit (omega (arith, few, length-remove l i h))) (list_all-removed may_wait l i waits);
-        laid = ap (λ m. take at m ++ (drop (at + field_limit) m ++ map (held k) (replicate field_limit same))) old.laid ∙ map-ends (held k) at (at + field_limit) (queue.layout l) (replicate field_limit same) ∙ ap (map (held k)) (lays-removed pair_limit l waits i h few);
+        listed = and_from _ _ (le-leb (length (remove l i)) pair_limit (omega (arith, few, length-remove l i h))) (list_all-removed may_wait l i waiting);
+        laid = ap (λ m. take at m ++ (drop (at + field_limit) m ++ map (held k) (replicate field_limit same))) old.laid ∙ map-ends (held k) at (at + field_limit) (queue.layout l) (replicate field_limit same) ∙ ap (map (held k)) (lays-removed pair_limit l waiting i h few);
       }
 
   pub kept-pushed : (t : ℕ) (d : List rows.Change) → length l < pair_limit → is_tap t ≡ true → length d ≡ field_limit → all_same d ≡ false → Kept k queue (with_row (length l) (map (held k) d) cs) (l ++ pair t d ∷ [])
@@ -227,7 +208,7 @@ module _ {R : Type 0} (k : Kind R) (cs : List (Change R)) (l : List Pair) (old :
       let at = field_limit * length l in
       record {
         listed = ap (λ m. queue.holds (l ++ m)) (sym (cond-false (all_same d) [] (pair t d ∷ []) some)) ∙ queue-lawful.put-held l t d (record { listed = old.listed; known = tap; whole = whole; taken = lt-ltb (length l) pair_limit room });
-        laid = ap (λ m. take at m ++ (map (held k) d ++ drop (at + field_limit) m)) old.laid ∙ map-rows (held k) at (at + field_limit) d (queue.layout l) ∙ ap (map (held k)) (lays-pushed pair_limit l waits t d whole room);
+        laid = ap (λ m. take at m ++ (map (held k) d ++ drop (at + field_limit) m)) old.laid ∙ map-rows (held k) at (at + field_limit) d (queue.layout l) ∙ ap (map (held k)) (lays-pushed pair_limit l waiting t d whole room);
       }
 
 module _ {R : Type 0} (k : Kind R) where
@@ -244,7 +225,7 @@ module _ {R : Type 0} (k : Kind R) where
       ∙ take-map (held k) field_limit (queue.layout l)
       ∙ ap (λ ds. map (held k) (take field_limit ds)) layout
       ∙ ap (map (held k)) (take_at d _ field_limit wide)
-      ∙ sym (canonical-all k row)
+      ∙ sym (canonical-map k row)
 
   pub drops-first : (ts : List ℕ) (cs : List (Change R)) → 1 ≤ length ts → drop_answer (pairs_in k ts cs) ≡ Ok tt
   drops-first [] cs some = absurd (not-suc-le-zero some)

@@ -1,16 +1,16 @@
 -- What a kind of waiting buffer is, by lists of pairs alone; and what its calls answer and leave.
-use Rattle.std.specs.Prelude.{◌≡◌, ◌≢◌, ℕ, ◌+◌, ◌≤◌, Bool, true, cond, ◌&&◌, List, [], ◌∷◌, map, length, replicate, drop, sum_by, Ok, Err, Result, ◌==◌}
+use Rattle.std.specs.Prelude.{◌≡◌, ◌≢◌, ℕ, ◌+◌, ◌≤◌, Bool, true, cond, ◌&&◌, List, [], ◌∷◌, map, length, replicate, sum_by, Ok, Err, Result, ◌==◌}
 use Rattle.std.specs.List.{list_all}
 use Rattle.row.specs.Kinds.{Kind}
 use Rattle.row.specs.Limits.{field_limit}
-use Rattle.row.specs.Records.{change_of, held, memory_refusal}
+use Rattle.row.specs.Records.{held, memory_refusal}
 use Rattle.row.specs.Rows.{Change, same, join, all_same}
 use Rattle.row.specs.Taps.{is_tap}
 use Rattle.row.specs.declared.change.Change as records
 use Rattle.row.specs.declared.fault.Fault.{Fault}
 use Rattle.row.specs.declared.fault.Fault.TheVariants.{Full, Nothing}
 use Rattle.row.specs.declared.fault.Refusal.{Refusal}
-use Rattle.waiting.specs.Lists.{Pair, pair, may_wait, joined, without, changing}
+use Rattle.waiting.specs.Lists.{Pair, may_wait, joined, without, changing}
 
 pub record Policy : Type 0 where
   -- how many changes its memory has

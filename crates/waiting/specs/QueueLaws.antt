@@ -1,26 +1,20 @@
 -- A queue keeps the laws of a waiting buffer.
-use Rattle.std.specs.Prelude.{◌≡◌, ◌≢◌, ℕ, ◌+◌, ◌-◌, ◌*◌, ◌≤◌, Bool, true, false, cond, not, ◌&&◌, List, [], ◌∷◌, ◌++◌, map, length, replicate, fold, filter, sum_by, ◌==◌, nat_le, nat_lt, refl}
-use Rattle.std.proofs.Common.{sym, ap, ◌∙◌, arith, rules}
-use Rattle.std.specs.List.{list_all, count_by}
-use Rattle.std.proofs.lemmas.Bool.{both_ways, and_parts, and_from, cond_both, cond-true, cond-false, eq-eqb, ne_eqb, le-leb, leb-true, lt-ltb, ltb-true}
+use Rattle.std.specs.Prelude.{◌≡◌, ◌≢◌, ℕ, ◌+◌, ◌-◌, ◌*◌, ◌≤◌, Bool, true, cond, not, List, [], ◌∷◌, ◌++◌, map, length, replicate, fold, filter, sum_by, nat_le, refl}
+use Rattle.std.proofs.Common.{sym, ap, ◌∙◌, arith}
+use Rattle.std.specs.List.{list_all}
+use Rattle.std.proofs.lemmas.Bool.{and_parts, and_from, cond_both, cond-true, eq-eqb, ne_eqb, le-leb, leb-true, lt-ltb, ltb-true}
 use Rattle.std.proofs.lemmas.List.{append-nil, length-append, map-append}
 use Rattle.std.proofs.lemmas.List.Elements.{filter-append}
 use Rattle.std.proofs.lemmas.List.Folds.{list_all-append, sum_by-replicate}
 use Rattle.std.proofs.lemmas.List.Sums.{fold-append, sum_by-append}
 use Rattle.row.specs.Limits.{field_limit}
-use Rattle.row.specs.Rows.{Change, same, becomes, join, join_change, blank, is_same, all_same}
+use Rattle.row.specs.Rows.{Change, same, join, blank, all_same}
 use Rattle.row.specs.Taps.{is_tap}
 use Rattle.waiting.specs.Limits.{pair_limit}
 use Rattle.waiting.specs.Lists.{Pair, pair, is_for, may_wait, changing, waiting_for, joined, deltas, without, pair_of_changes}
-use Rattle.waiting.specs.Policies.{Policy, Put, Lawful}
+use Rattle.waiting.specs.ListsLaws.{join-same, list_all-filter, may_wait-from}
+use Rattle.waiting.specs.Policies.{Put, Lawful}
 use Rattle.waiting.specs.Queues.{queue, queue_of}
-
--- a delta that leaves each cell as it is leaves what it is joined to
-join-same : (x d : List Change) → all_same d ≡ true → join x d ≡ x
-join-same [] d e = refl
-join-same (c ∷ x) [] e = refl
-join-same (c ∷ x) (same ∷ d) e = ap (λ y. c ∷ y) (join-same x d e)
-join-same (c ∷ x) (becomes v ∷ d) e = absurd (both_ways false refl e)
 
 joined-append : (t : ℕ) (l m : List Pair) → joined t (l ++ m) ≡ fold join (joined t l) (waiting_for t m)
 joined-append t l m =
@@ -29,14 +23,14 @@ joined-append t l m =
     ∙ fold-append join blank (waiting_for t l) (waiting_for t m)
 
 -- the pair of a delta, joined to what waits
-joined-pair : (t : ℕ) (x d : List Change) → fold join x (waiting_for t (pair_of_changes t d)) ≡ join x d
-joined-pair t x d =
+pair-own : (t : ℕ) (x d : List Change) → fold join x (waiting_for t (pair_of_changes t d)) ≡ join x d
+pair-own t x d =
     cond_both (all_same d) [] (pair t d ∷ []) (λ m. fold join x (waiting_for t m) ≡ join x d) (λ e. sym (join-same x d e))
     (λ _. ap (λ b. fold join x (map (λ p. p.delta) (cond b (pair t d ∷ []) []))) (eq-eqb t t refl))
 
 -- and to what waits for another tap
-joined-other : (t u : ℕ) (x d : List Change) → u ≢ t → fold join x (waiting_for u (pair_of_changes t d)) ≡ x
-joined-other t u x d ne =
+pair-other : (t u : ℕ) (x d : List Change) → u ≢ t → fold join x (waiting_for u (pair_of_changes t d)) ≡ x
+pair-other t u x d ne =
     cond_both (all_same d) [] (pair t d ∷ []) (λ m. fold join x (waiting_for u m) ≡ x) (λ _. refl)
     (λ _. ap (λ b. fold join x (map (λ p. p.delta) (cond b (pair t d ∷ []) []))) (ne_eqb t u (λ e. ne (sym e))))
 
@@ -47,16 +41,9 @@ length-pair t d = cond_both (all_same d) [] (pair t d ∷ []) (λ m. length m �
 pair-waits : (t : ℕ) (d : List Change) → is_tap t ≡ true → length d ≡ field_limit → list_all may_wait (pair_of_changes t d) ≡ true
 pair-waits t d tap whole =
     cond_both (all_same d) [] (pair t d ∷ []) (λ m. list_all may_wait m ≡ true) (λ _. refl)
-    (λ e. and_from _ _ (and_from _ _ tap (and_from _ _ (eq-eqb (length d) field_limit whole) (ap not e))) refl)
+    (λ e. and_from _ _ (may_wait-from t d tap whole e) refl)
 
--- what a list without some elements keeps
-list_all-filter : {X : Type 0} (p q : X → Bool) (xs : List X) → list_all p xs ≡ true → list_all p (filter q xs) ≡ true
-list_all-filter p q [] e = refl
-list_all-filter p q (x ∷ xs) e =
-    let h = and_parts (p x) (list_all p xs) e in
-    let rest = list_all-filter p q xs h.1 in
-    cond_both (q x) (x ∷ filter q xs) (filter q xs) (λ ys. list_all p ys ≡ true) (λ _. and_from _ _ h.0 rest) (λ _. rest)
-
+-- a list without some elements is no longer
 length-filter : {X : Type 0} (q : X → Bool) (xs : List X) → length (filter q xs) ≤ length xs
 length-filter q [] = omega arith
 length-filter q (x ∷ xs) =
@@ -88,8 +75,8 @@ module _ (limit : ℕ) (some : 1 ≤ limit) where
   pub queue_of-lawful : Lawful (queue_of limit)
   queue_of-lawful = record {
     empty-takes = λ t. lt-ltb 0 limit (omega arith);
-    joins = λ l t d p. joined-append t l (pair_of_changes t d) ∙ joined-pair t (joined t l) d;
-    leaves-others = λ l t d p u ne. joined-append u l (pair_of_changes t d) ∙ joined-other t u (joined u l) d ne;
+    joins = λ l t d p. joined-append t l (pair_of_changes t d) ∙ pair-own t (joined t l) d;
+    leaves-others = λ l t d p u ne. joined-append u l (pair_of_changes t d) ∙ pair-other t u (joined u l) d ne;
     grows = λ l t d p. omega (arith, length-append l (pair_of_changes t d), length-pair t d);
     passes-same = λ l t d p e. ap (λ m. l ++ m) (cond-true (all_same d) [] (pair t d ∷ []) e) ∙ append-nil l;
     may-wait = λ l e. (holds-parts l e).1;
@@ -97,12 +84,12 @@ module _ (limit : ℕ) (some : 1 ≤ limit) where
     put-held = put-holds;
     rest-held = λ p l e. let h = holds-parts (p ∷ l) e in holds-from l (omega (arith, h.0)) (and_parts (may_wait p) (list_all may_wait l) h.1).1;
     without-held = λ l t e.
-      let h = holds-parts l e in
-      holds-from (without t l) (omega (arith, h.0, length-filter (λ p. not (is_for t p)) l)) (list_all-filter may_wait (λ p. not (is_for t p)) l h.1);
+        let h = holds-parts l e in
+        holds-from (without t l) (omega (arith, h.0, length-filter (λ p. not (is_for t p)) l)) (list_all-filter may_wait (λ p. not (is_for t p)) l h.1);
     lays-list = λ l e.
-      sum_by-append _ (deltas l) (replicate (field_limit * (limit - length l)) same)
-      ∙ ap (λ n. changing (deltas l) + n) (sum_by-replicate _ (field_limit * (limit - length l)) same)
-      ∙ (let deltas = changing-deltas l in omega arith);
+        sum_by-append _ (deltas l) (replicate (field_limit * (limit - length l)) same)
+        ∙ ap (λ n. changing (deltas l) + n) (sum_by-replicate _ (field_limit * (limit - length l)) same)
+        ∙ (let deltas = changing-deltas l in omega arith);
     empty-layout = ap (λ n. replicate (field_limit * n) same) (omega arith);
   }
 

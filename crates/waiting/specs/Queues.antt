@@ -1,10 +1,10 @@
 -- The queue: deltas wait in the order in which they were put, up to a number of pairs.
-use Rattle.std.specs.Prelude.{ℕ, ◌-◌, ◌*◌, Bool, ◌&&◌, List, [], ◌∷◌, ◌++◌, map, length, take, drop, replicate, nat_le, nat_lt}
+use Rattle.std.specs.Prelude.{ℕ, ◌-◌, ◌*◌, ◌&&◌, List, [], ◌∷◌, ◌++◌, map, length, take, drop, replicate, nat_le, nat_lt}
 use Rattle.std.specs.List.{list_all}
 use Rattle.row.specs.Kinds.{Kind}
 use Rattle.row.specs.Limits.{field_limit}
 use Rattle.row.specs.Records.{change_of}
-use Rattle.row.specs.Rows.{Change, same}
+use Rattle.row.specs.Rows.{same}
 use Rattle.row.specs.declared.change.Change as records
 use Rattle.waiting.specs.Limits.{pair_limit}
 use Rattle.waiting.specs.Lists.{Pair, pair, may_wait, deltas, pair_of_changes}

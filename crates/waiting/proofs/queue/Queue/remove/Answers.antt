@@ -1,4 +1,4 @@
-use Rattle.std.proofs.Common.{◌≡◌, ◌<◌, ◌-◌, length, take, sym, ap, ◌∙◌, arith, subst}
+use Rattle.std.proofs.Common.{◌<◌, ◌-◌, length, take, sym, ap, ◌∙◌, arith, subst}
 use Rattle.std.specs.List.{list_all, remove}
 use Rattle.std.proofs.lemmas.Slice.{put_mid-rotated}
 use Rattle.row.specs.Taps.{is_tap}

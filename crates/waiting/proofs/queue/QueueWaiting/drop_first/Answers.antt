@@ -1,4 +1,4 @@
-use Rattle.std.proofs.Common.{take, length, sym, arith}
+use Rattle.std.proofs.Common.{take, sym, arith}
 use Rattle.std.proofs.lemmas.List.{length-take-le}
 use Rattle.waiting.proofs.QueueRows.{drops-first}
 use Rattle.waiting.proofs.queue.QueueWaiting.drop_first.Goals as goal

@@ -1,5 +1,4 @@
-use Rattle.std.proofs.Common.{◌≡◌, [], take, length, get_or, sym, ap, ◌∙◌, arith, subst}
-use Rattle.std.specs.List.{remove}
+use Rattle.std.proofs.Common.{[], take, sym, ◌∙◌, arith, subst}
 use Rattle.waiting.specs.Lists.{pair}
 use Rattle.waiting.specs.Queues.{pairs_in}
 use Rattle.waiting.proofs.Forgetting.{Forgotten, forgotten-removed, forgotten-passed, forgotten-all}

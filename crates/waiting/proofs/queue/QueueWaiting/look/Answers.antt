@@ -1,4 +1,4 @@
-use Rattle.std.proofs.Common.{take, length, arith}
+use Rattle.std.proofs.Common.{take, arith}
 use Rattle.std.proofs.lemmas.List.{length-take-le}
 use Rattle.waiting.proofs.QueueRows.{shows-first}
 use Rattle.waiting.proofs.queue.QueueWaiting.look.Goals as goal

@@ -9,7 +9,8 @@ use Rattle.waiting.specs.Limits.{pair_limit}
 use Rattle.waiting.specs.Lists.{pair}
 use Rattle.waiting.specs.Policies.{Kept}
 use Rattle.waiting.specs.Queues.{queue, pairs_in}
-use Rattle.waiting.proofs.QueueRows.{length-taken, list_all-set, canonical-all, queue-pushed, kept-pushed}
+use Rattle.waiting.proofs.Canonical.{canonical-map}
+use Rattle.waiting.proofs.QueueRows.{length-taken, list_all-set, queue-pushed, kept-pushed}
 use Rattle.waiting.proofs.queue.QueueWaiting.put.Goals as goal
 
 pub invariant_of-self-clause-known : goal.invariant_of-self-clause-known
@@ -46,6 +47,6 @@ returns-clause-kept g c = λ old.
     let l = pairs_in k (take q.len q.taps) q.changes.now in
     let whole : length d ≡ field_limit = length-map c.args.delta.now (change_of k) ∙ omega arith in
     let stored : c.store_row.new.changes ≡ with_row (length l) (map (held k) d) q.changes.now =
-    c.store_row.ensures ∙ (λ i. with_row (sym (length-taken k q.len q.taps q.changes.now (omega arith)) i) (canonical-all k c.args.delta.now i) q.changes.now) in
+    c.store_row.ensures ∙ (λ i. with_row (sym (length-taken k q.len q.taps q.changes.now (omega arith)) i) (canonical-map k c.args.delta.now i) q.changes.now) in
     let next = kept-pushed k q.changes.now l old t d (ltb-true (length l) pair_limit (sym c.if-not-takes.ensures)) c.args.tap.known whole (sym c.if-all_same.ensures) in
     subst (Kept k queue c.store_row.new.changes) (sym (pushed g c)) (subst (λ cs. Kept k queue cs (l ++ pair t d ∷ [])) (sym stored) next)
