@@ -9,6 +9,7 @@ use Rattle.row.specs.declared.change.Change as records
 use Rattle.waiting.specs.Limits.{pair_limit}
 use Rattle.waiting.specs.Lists.{Pair, pair, may_wait, deltas, pair_of_changes}
 use Rattle.waiting.specs.Policies.{Policy}
+use Rattle.waiting.specs.declared.queue.Queue.{Queue}
 
 -- the policy of a queue for so many pairs: a row of its memory for each
 abbrev pub queue_of : ℕ → Policy
@@ -27,3 +28,7 @@ queue = queue_of pair_limit
 abbrev pub pairs_in : {R : Type 0} → Kind R → List ℕ → List (records.Change R) → List Pair
 pairs_in k [] cs = []
 pairs_in k (t ∷ ts) cs = pair t (map (change_of k) (take field_limit cs)) ∷ pairs_in k ts (drop field_limit cs)
+
+-- what waits in a queue
+abbrev pub queued : {R : Type 0} → Kind R → Queue R → List Pair
+queued k q = pairs_in k (take q.len q.taps) q.changes.now

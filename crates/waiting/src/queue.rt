@@ -1,5 +1,5 @@
 // The queue: deltas wait in the order in which they were put.
-ghost use Rattle.std.specs.Prelude.{◌≡◌, ◌+◌, ◌≤◌, ◌<◌, true, length, take, remove};
+ghost use Rattle.std.specs.Prelude.{◌≡◌, ◌+◌, ◌≤◌, ◌<◌, true, length, remove};
 ghost use Rattle.std.specs.List.{list_all};
 ghost use Rattle.row.specs.Taps.{is_tap};
 ghost use Rattle.waiting.specs.Limits.{pair_limit, queue_limit};
@@ -28,14 +28,14 @@ pub struct Queue<'a, R> {
 
 impl<R: Value> Queue<'_, R> {
     ghost use Rattle.waiting.specs.Policies.{Kept};
-    ghost use Rattle.waiting.specs.Queues.{queue, pairs_in};
+    ghost use Rattle.waiting.specs.Queues.{queue, queued};
 
     // Removes the pair at a place: those behind it move up.
     fn remove(&mut self, i: usize)
         requires { i < self.old.len }
         ensures len { self.new.len + 1 ≡ self.old.len }
-        ensures list { pairs_in R.kind (take self.new.len self.new.taps) self.new.changes.now ≡ remove (pairs_in R.kind (take self.old.len self.old.taps) self.old.changes.now) i }
-        ensures kept { Kept R.kind queue self.old.changes.now (pairs_in R.kind (take self.old.len self.old.taps) self.old.changes.now) → Kept R.kind queue self.new.changes.now (pairs_in R.kind (take self.new.len self.new.taps) self.new.changes.now) }
+        ensures list { queued R.kind self.new ≡ remove (queued R.kind self.old) i }
+        ensures kept { Kept R.kind queue self.old.changes.now (queued R.kind self.old) → Kept R.kind queue self.new.changes.now (queued R.kind self.new) }
         ensures lent { self.new.changes.ghost_name ≡ self.old.changes.ghost_name }
     {
         self.taps[i..].rotate_left(1);
@@ -45,12 +45,12 @@ impl<R: Value> Queue<'_, R> {
 }
 
 impl<'a, R: Value> Waiting<'a, R> for Queue<'a, R> {
-    ghost use Rattle.waiting.specs.Queues.{queue, pairs_in};
+    ghost use Rattle.waiting.specs.Queues.{queue, queued};
     ghost use Rattle.waiting.specs.QueueLaws.{queue-lawful};
 
     ghost policy = { queue };
 
-    ghost list = { λ q. pairs_in R.kind (take q.len q.taps) q.changes.now };
+    ghost list = { queued R.kind };
 
     ghost places = { λ q. q.changes.now };
 

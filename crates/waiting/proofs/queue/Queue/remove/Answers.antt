@@ -1,9 +1,9 @@
-use Rattle.std.proofs.Common.{◌<◌, ◌-◌, length, take, sym, ap, ◌∙◌, arith, subst}
+use Rattle.std.proofs.Common.{◌<◌, ◌-◌, length, sym, ap, ◌∙◌, arith, subst}
 use Rattle.std.specs.List.{list_all, remove}
 use Rattle.std.proofs.lemmas.Slice.{put_mid-rotated}
 use Rattle.row.specs.Taps.{is_tap}
 use Rattle.waiting.specs.Policies.{Kept}
-use Rattle.waiting.specs.Queues.{queue, pairs_in}
+use Rattle.waiting.specs.Queues.{queue, queued}
 use Rattle.waiting.proofs.QueueRows.{length-taken, queue-removed, list_all-moved, kept-removed}
 use Rattle.waiting.proofs.queue.Queue.remove.Goals as goal
 
@@ -23,7 +23,7 @@ pub returns-clause-kept : goal.returns-clause-kept
 returns-clause-kept g c = λ old.
     let q = c.args.self.now in
     let k = g.R.Value.kind in
-    let l = pairs_in k (take q.len q.taps) q.changes.now in
+    let l = queued k q in
     let inside : c.args.i < length l = omega (arith, length-taken k q.len q.taps q.changes.now (omega arith)) in
     let moved = subst (λ cs. Kept k queue cs (remove l c.args.i)) (sym c.remove_row.ensures) (kept-removed k q.changes.now l old c.args.i inside) in
     subst (Kept k queue c.remove_row.new.changes) (sym (returns-clause-list g c)) moved

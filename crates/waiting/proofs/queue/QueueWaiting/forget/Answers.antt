@@ -1,6 +1,6 @@
-use Rattle.std.proofs.Common.{[], take, sym, ◌∙◌, arith, subst}
+use Rattle.std.proofs.Common.{[], sym, ◌∙◌, arith, subst}
 use Rattle.waiting.specs.Lists.{pair}
-use Rattle.waiting.specs.Queues.{pairs_in}
+use Rattle.waiting.specs.Queues.{queued}
 use Rattle.waiting.proofs.Forgetting.{Forgotten, forgotten-removed, forgotten-passed, forgotten-all}
 use Rattle.waiting.proofs.QueueRows.{length-taken, tap-taken}
 use Rattle.waiting.proofs.queue.QueueWaiting.forget.Goals as goal
@@ -10,9 +10,9 @@ loop-i-preserved-then-self-i g c =
     let q = c.loop-i.self in
     let k = g.R.Value.kind in
     let t = c.args.tap.number in
-    let l = pairs_in k (take q.len q.taps) q.changes.now in
+    let l = queued k q in
     let start = c.args.self.now in
-    let all = pairs_in k (take start.len start.taps) start.changes.now in
+    let all = queued k start in
     let before = c.loop-i.invariant in
     let long = length-taken k q.len q.taps q.changes.now (omega arith) in
     let here = tap-taken k q.len c.loop-i.i q.taps q.changes.now (pair 0 []) c.loop-i-test.true (omega arith) ∙ c.if-self-i.true ∙ c.number.ensures in
@@ -26,7 +26,7 @@ pub loop-i-preserved : goal.loop-i-preserved
 loop-i-preserved g c =
     let q = c.loop-i.self in
     let k = g.R.Value.kind in
-    let l = pairs_in k (take q.len q.taps) q.changes.now in
+    let l = queued k q in
     let before = c.loop-i.invariant in
     let long = length-taken k q.len q.taps q.changes.now (omega arith) in
     let here = tap-taken k q.len c.loop-i.i q.taps q.changes.now (pair 0 []) c.loop-i-test.true (omega arith) in (

@@ -8,7 +8,7 @@ use Rattle.row.specs.Taps.{is_tap}
 use Rattle.waiting.specs.Limits.{pair_limit}
 use Rattle.waiting.specs.Lists.{pair}
 use Rattle.waiting.specs.Policies.{Kept}
-use Rattle.waiting.specs.Queues.{queue, pairs_in}
+use Rattle.waiting.specs.Queues.{queue, pairs_in, queued}
 use Rattle.waiting.proofs.Canonical.{canonical-map}
 use Rattle.waiting.proofs.QueueRows.{length-taken, list_all-set, queue-pushed, kept-pushed}
 use Rattle.waiting.proofs.queue.QueueWaiting.put.Goals as goal
@@ -19,12 +19,12 @@ invariant_of-self-clause-known g c =
     list_all-set is_tap q.taps q.len c.number.result q.known (ap is_tap c.number.ensures ∙ c.args.tap.known)
 
 -- the pair that was put stands at the end
-pushed : (g : _) (c : goal.After-self-2-1 g) → pairs_in g.R.Value.kind (take (c.args.self.now.len + 1) (slice_set c.args.self.now.taps c.args.self.now.len c.number.result)) c.store_row.new.changes ≡ pairs_in g.R.Value.kind (take c.args.self.now.len c.args.self.now.taps) c.args.self.now.changes.now ++ pair c.args.tap.number (map (change_of g.R.Value.kind) c.args.delta.now) ∷ []
+pushed : (g : _) (c : goal.After-self-2-1 g) → pairs_in g.R.Value.kind (take (c.args.self.now.len + 1) (slice_set c.args.self.now.taps c.args.self.now.len c.number.result)) c.store_row.new.changes ≡ queued g.R.Value.kind c.args.self.now ++ pair c.args.tap.number (map (change_of g.R.Value.kind) c.args.delta.now) ∷ []
 pushed g c =
     let q = c.args.self.now in
     let k = g.R.Value.kind in
     queue-pushed k g.met.R.Value.lawful q.len c.number.result q.taps q.changes.now c.args.delta.now c.store_row.new.changes (omega arith) (omega arith) (omega arith) c.store_row.ensures
-    ∙ ap (λ n. pairs_in k (take q.len q.taps) q.changes.now ++ pair n (map (change_of k) c.args.delta.now) ∷ []) c.number.ensures
+    ∙ ap (λ n. queued k q ++ pair n (map (change_of k) c.args.delta.now) ∷ []) c.number.ensures
 
 pub returns-clause-list : goal.returns-clause-list
 returns-clause-list g c =
@@ -32,7 +32,7 @@ returns-clause-list g c =
     let k = g.R.Value.kind in
     let t = c.args.tap.number in
     let d = map (change_of k) c.args.delta.now in
-    let l = pairs_in k (take q.len q.taps) q.changes.now in
+    let l = queued k q in
     let whole : length d ≡ field_limit = length-map c.args.delta.now (change_of k) ∙ omega arith in
     pushed g c
     ∙ ap (λ m. l ++ m) (sym (cond-false (all_same d) [] (pair t d ∷ []) (sym c.if-all_same.ensures)))
@@ -44,7 +44,7 @@ returns-clause-kept g c = λ old.
     let k = g.R.Value.kind in
     let t = c.args.tap.number in
     let d = map (change_of k) c.args.delta.now in
-    let l = pairs_in k (take q.len q.taps) q.changes.now in
+    let l = queued k q in
     let whole : length d ≡ field_limit = length-map c.args.delta.now (change_of k) ∙ omega arith in
     let stored : c.store_row.new.changes ≡ with_row (length l) (map (held k) d) q.changes.now =
     c.store_row.ensures ∙ (λ i. with_row (sym (length-taken k q.len q.taps q.changes.now (omega arith)) i) (canonical-map k c.args.delta.now i) q.changes.now) in
