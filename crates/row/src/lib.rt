@@ -9,8 +9,8 @@ mod text;
 mod value;
 
 pub use change::{
-    Cell, Change, FIELD_LIMIT, Mark, all_same, blank, canonicalize, change_row, join_delta, nullify,
-    whole_row,
+    Cell, Change, FIELD_LIMIT, Mark, all_same, blank, canonicalize, change_row, join_delta,
+    nullify, whole_row,
 };
 pub use fault::{Fault, Refusal};
 pub use logic::{Logic, LogicRecord};
