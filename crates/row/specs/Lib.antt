@@ -6,5 +6,6 @@ pub mod Kinds
 pub mod Texts
 pub mod Logics
 pub mod Records
+pub mod Canonical
 pub mod Every
 pub mod LogicsLemmas

@@ -114,7 +114,8 @@ impl<R: Value> Change<R> {
 impl<R: Value> Change<R> {
     // The change by the record that memory holds for its meaning.
     pub fn canonical(self) -> Change<R>
-        ensures { result ≡ canonical R.kind self }
+        ensures record { result ≡ canonical R.kind self }
+        ensures means { change_of R.kind result ≡ change_of R.kind self }
     {
         match self.mark {
             Mark::Same => Change::same(),
@@ -202,7 +203,8 @@ pub fn nullify<R: Value>(row: &mut [Cell<R>])
 
 // Makes each change hold the record of its meaning.
 pub fn canonicalize<R: Value>(delta: &mut [Change<R>])
-    ensures { delta.new ≡ map (canonical R.kind) delta.old }
+    ensures changes { delta.new ≡ map (canonical R.kind) delta.old }
+    ensures means { map (change_of R.kind) delta.new ≡ map (change_of R.kind) delta.old }
 {
     for change in delta.iter_mut() {
         *change = change.canonical();

@@ -1,15 +1,12 @@
 -- Rows among others, and changes by the records of their meaning.
 use Rattle.std.proofs.Common.{◌≡◌, ℕ, ◌+◌, ◌-◌, ◌*◌, ◌≤◌, List, [], ◌∷◌, ◌++◌, map, length, take, drop, sym, refl, ap, ◌∙◌, arith}
 use Rattle.std.proofs.lemmas.List.{length-append, length-drop, length-take-le, map-append, take-append-drop, take-map, drop-map, drop-drop}
-use Rattle.std.proofs.lemmas.Simd.{map-map}
+use Rattle.row.specs.Canonical.{means-canonical}
 use Rattle.row.specs.Kinds.{Kind, Lawful}
 use Rattle.row.specs.Limits.{field_limit}
-use Rattle.row.specs.Records.{canonical, change_of, held, later}
-use Rattle.row.specs.Rows as rows
-use Rattle.row.specs.Rows.{join, over, row_at, same, with_row}
+use Rattle.row.specs.Records.{canonical, change_of, later}
+use Rattle.row.specs.Rows.{join, over, row_at, with_row}
 use Rattle.row.specs.declared.change.Change.{Change}
-use Rattle.row.specs.declared.change.Mark.{Mark}
-use Rattle.row.specs.declared.change.Mark.TheVariants.{Same, Null, Value}
 use Rattle.row.proofs.Over.{join-means}
 
 module _ {X : Type 0} (i : ℕ) (places : List X) where
@@ -46,9 +43,6 @@ length-over f (x ∷ xs) [] = refl
 length-over f (x ∷ xs) (y ∷ ys) = omega (arith, length-over f xs ys)
 
 module _ {R : Type 0} (k : Kind R) where
-  pub canonical-map : (cs : List (Change R)) → map (canonical k) cs ≡ map (held k) (map (change_of k) cs)
-  canonical-map cs = sym (map-map (held k) (change_of k) cs)
-
   pub canonical-part : (n m : ℕ) (cs : List (Change R)) → cs ≡ map (canonical k) cs → take n (drop m cs) ≡ map (canonical k) (take n (drop m cs))
   canonical-part n m cs e = ap (λ l. take n (drop m l)) e ∙ ap (take n) (drop-map (canonical k) m cs) ∙ take-map (canonical k) n (drop m cs)
 
@@ -57,18 +51,6 @@ module _ {R : Type 0} (k : Kind R) where
   canonical-with_row i row cs e f = (λ j. with_row i (e j) (f j)) ∙ sym (map-with_row (canonical k) i row cs)
 
   module _ (law : Lawful k) where
-    means-held : (m : Mark) (r : R) → change_of k (canonical k (record { mark = m; raw = r })) ≡ change_of k (record { mark = m; raw = r })
-    means-held Same r = refl
-    means-held Null r = refl
-    means-held Value r = ap (λ t. rows.becomes (rows.value t)) (law.text-raw (k.text r) (law.text-allowed r))
-
-    -- a record that memory holds means the same as the one that it was made of
-    pub means-canonical : (cs : List (Change R)) → map (change_of k) (map (canonical k) cs) ≡ map (change_of k) cs
-    means-canonical cs = map-map (change_of k) (canonical k) cs ∙ (λ i. map (λ c. means-held c.mark c.raw i) cs)
-
-    pub canonical-canonical : (cs : List (Change R)) → map (canonical k) cs ≡ map (canonical k) (map (canonical k) cs)
-    canonical-canonical cs = canonical-map cs ∙ ap (map (held k)) (sym (means-canonical cs)) ∙ sym (canonical-map (map (canonical k) cs))
-
     -- two rows joined and made canonical, as texts
     pub joined-means : (cs ds : List (Change R)) → map (change_of k) (map (canonical k) (over later cs ds)) ≡ join (map (change_of k) cs) (map (change_of k) ds)
-    joined-means cs ds = means-canonical (over later cs ds) ∙ join-means k cs ds
+    joined-means cs ds = means-canonical k law (over later cs ds) ∙ join-means k cs ds

@@ -5,6 +5,7 @@ use Rattle.std.specs.List.{list_all, range_with_len}
 use Rattle.std.proofs.lemmas.Bool.{and_from, and_parts, cond-true, cond-false, eq-eqb, lt-ltb, le-ltb, le-leb, leb-true, ltb-true}
 use Rattle.std.proofs.Math.Nat.{add-zero}
 use Rattle.std.proofs.lemmas.List.{append-nil, length-drop, length-map, length-take-le, map-append, nil_from_length, take-append-drop, take-append-le, drop-append-le, take_at, drop_at, drop-drop}
+use Rattle.row.specs.Canonical.{canonical-map, canonical-canonical}
 use Rattle.row.specs.Kinds.{Kind, Lawful}
 use Rattle.row.specs.Limits.{field_limit, tap_limit, cell_limit}
 use Rattle.row.specs.Records.{canonical, change_of, held, later}
@@ -17,7 +18,7 @@ use Rattle.waiting.specs.ListsLaws.{filter_keep, filter_skip, join-onto, join-ch
 use Rattle.waiting.specs.Marks.{rising, marked, marks, marks_in}
 use Rattle.waiting.specs.MarksLaws.{joined-above, joined-own, not_for, others_above, rising-cons, rising-less, rising-parts}
 use Rattle.waiting.specs.Policies.{Kept, first, put_list}
-use Rattle.waiting.proofs.Canonical.{row-read, with_row-own, length-row_at, length-with_row, length-over, canonical-map, canonical-with_row, canonical-canonical, joined-means}
+use Rattle.waiting.proofs.Canonical.{row-read, with_row-own, length-row_at, length-with_row, length-over, canonical-with_row, joined-means}
 
 -- what waits for lower taps in front
 abbrev below : ℕ → List Pair → Bool

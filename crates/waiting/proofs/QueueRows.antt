@@ -19,7 +19,7 @@ use Rattle.waiting.specs.ListsLaws.{waits}
 use Rattle.waiting.specs.Policies.{Kept, drop_answer}
 use Rattle.waiting.specs.QueueLaws.{queue-lawful}
 use Rattle.waiting.specs.Queues.{pairs_in, queue, queue_of}
-use Rattle.waiting.proofs.Canonical.{canonical-map, means-canonical}
+use Rattle.row.specs.Canonical.{canonical-map, means-canonical}
 
 module _ {X : Type 0} (xs : List X) where
   next : (i : ℕ) → field_limit * suc i ≡ field_limit + field_limit * i

@@ -9,7 +9,7 @@ use Rattle.waiting.specs.Limits.{pair_limit}
 use Rattle.waiting.specs.Lists.{pair}
 use Rattle.waiting.specs.Policies.{Kept}
 use Rattle.waiting.specs.Queues.{queue, pairs_in, queued}
-use Rattle.waiting.proofs.Canonical.{canonical-map}
+use Rattle.row.specs.Canonical.{canonical-map}
 use Rattle.waiting.proofs.QueueRows.{length-taken, list_all-set, queue-pushed, kept-pushed}
 use Rattle.waiting.proofs.queue.QueueWaiting.put.Goals as goal
 

@@ -1,0 +1,220 @@
+// Plays scripts on a buffer of any kind.
+use crate::sample::{Sample, Text, check_delta, put};
+use row::{Change, FIELD_LIMIT, Fault, Refusal, Tap};
+use std::alloc::Global;
+use std::mem;
+use std::process::Abort;
+use std::test::*;
+use waiting::Waiting;
+
+// Pairs of a tap and a delta, in sending order.
+pub(crate) type List<'s> = &'s [(usize, Text<'s>)];
+
+pub(crate) const TAKEN: Result<(), Refusal> = Ok(());
+
+pub(crate) const FULL: Result<(), Refusal> = Err(Refusal {
+    fault: Fault::Full,
+    place: 0,
+});
+
+pub(crate) const NOTHING: Result<(), Refusal> = Err(Refusal {
+    fault: Fault::Nothing,
+    place: 0,
+});
+
+// What is done to a buffer, and what it has to answer. After each step it is looked at, and its pairs are counted.
+#[derive(Clone, Copy)]
+pub(crate) enum Act<'s> {
+    Put(usize, Text<'s>, Result<(), Refusal>),
+    // puts all of these, and each is taken
+    PutAll(List<'s>),
+    // puts deltas of 11 and of 13 changes, and each is refused
+    PutUnfit(usize),
+    Takes(usize, bool),
+    DropFirst(Result<(), Refusal>),
+    Forget(usize),
+    // makes the other buffer hold what this one holds
+    CopyOver,
+    // goes on with the other buffer
+    Turn,
+}
+
+// What waits in it then: what waited in it before, nothing, the same list in each kind of buffer, or one in a queue and another
+// in marks.
+#[derive(Clone, Copy)]
+pub(crate) enum Waits<'s> {
+    Still,
+    Empty,
+    Both(List<'s>),
+    Each(List<'s>, List<'s>),
+}
+
+pub(crate) type Script<'s> = &'s [(Act<'s>, Waits<'s>)];
+
+// How a kind lists and lays out what waits.
+#[derive(Clone, Copy)]
+pub(crate) enum Kind {
+    Queue,
+    Marks,
+}
+
+impl Kind {
+    fn list<'s>(self, before: List<'s>, waits: Waits<'s>) -> List<'s> {
+        match waits {
+            Waits::Still => before,
+            Waits::Empty => &[],
+            Waits::Both(list) => list,
+            Waits::Each(in_queue, in_marks) => match self {
+                Kind::Queue => in_queue,
+                Kind::Marks => in_marks,
+            },
+        }
+    }
+
+    // The delta in a row of a buffer's memory: the pair in that place, or that of the row's tap.
+    fn row<'s>(self, list: List<'s>, i: usize) -> Text<'s> {
+        let pair = match self {
+            Kind::Queue => list.get(i),
+            Kind::Marks => list.iter().find(|(tap, _)| *tap == i.saturating_add(1)),
+        };
+        pair.map_or(b"", |(_, text)| *text)
+    }
+}
+
+// The first pair is that of the list, or there is none.
+fn check_first<'a, R: Sample, W: Waiting<'a, R>>(
+    rt: &impl Abort,
+    step: usize,
+    buffer: &W,
+    list: List<'_>,
+) -> Result<(), Fail> {
+    let Some((tap, text)) = list.first() else {
+        assert_eq!(rt; buffer.look().map(|_| ()), NOTHING, "step {step}");
+        return Ok(());
+    };
+    let pair = buffer.look()?;
+    assert_eq!(rt; pair.tap.number(), *tap, "step {step}");
+    check_delta(rt, step, pair.delta, text)
+}
+
+// The buffer shows the first pair of the list; a copy of it shows and drops one after another, and then holds nothing.
+fn check_list<'a, R: Sample, W: Waiting<'a, R>>(
+    rt: &impl Abort,
+    step: usize,
+    buffer: &W,
+    spare: &mut W,
+    list: List<'_>,
+) -> Result<(), Fail> {
+    assert_eq!(rt; buffer.count(), list.len(), "step {step}");
+    check_first::<R, W>(rt, step, buffer, list)?;
+    buffer.copy_to(spare);
+    for i in 0..list.len() {
+        check_first::<R, W>(rt, step, spare, &list[i..])?;
+        assert_eq!(rt; spare.drop_first(), TAKEN, "step {step}");
+    }
+    check_first::<R, W>(rt, step, spare, &[])?;
+    assert_eq!(rt; spare.drop_first(), NOTHING, "step {step}");
+    Ok(())
+}
+
+// Puts all pairs of a list, and each is taken.
+fn put_all<'a, R: Sample, W: Waiting<'a, R>>(
+    alloc: Global,
+    buffer: &mut W,
+    list: List<'_>,
+) -> Result<(), Fail> {
+    for (tap, text) in list {
+        put::<R, W>(alloc, buffer, *tap, text)??;
+    }
+    Ok(())
+}
+
+// Deltas of too few and of too many changes are refused.
+fn put_unfit<'a, R: Sample, W: Waiting<'a, R>>(
+    rt: &impl Abort,
+    alloc: Global,
+    step: usize,
+    buffer: &mut W,
+    tap: Tap,
+) -> Result<(), Fail> {
+    for len in [FIELD_LIMIT - 1, FIELD_LIMIT + 1] {
+        let changes = vec![in alloc; Change::null(); len]?;
+        assert_eq!(rt;
+            buffer.put(tap, &changes),
+            Err(Refusal::MEMORY),
+            "step {step}"
+        );
+    }
+    Ok(())
+}
+
+// Does what a step says to a buffer.
+fn perform<'a, R: Sample, W: Waiting<'a, R>>(
+    rt: &impl Abort,
+    alloc: Global,
+    step: usize,
+    act: Act<'_>,
+    buffer: &mut W,
+    other: &mut W,
+) -> Result<(), Fail> {
+    match act {
+        Act::Put(tap, text, answer) => {
+            assert_eq!(rt;
+                put::<R, W>(alloc, buffer, tap, text)?,
+                answer,
+                "step {step}"
+            );
+        }
+        Act::PutAll(list) => put_all::<R, W>(alloc, buffer, list)?,
+        Act::PutUnfit(tap) => put_unfit::<R, W>(rt, alloc, step, buffer, Tap::try_from(tap)?)?,
+        Act::Takes(tap, answer) => {
+            assert_eq!(rt; buffer.takes(Tap::try_from(tap)?), answer, "step {step}");
+        }
+        Act::DropFirst(answer) => assert_eq!(rt; buffer.drop_first(), answer, "step {step}"),
+        Act::Forget(tap) => buffer.forget(Tap::try_from(tap)?),
+        Act::CopyOver => buffer.copy_to(other),
+        Act::Turn => mem::swap(buffer, other),
+    }
+    Ok(())
+}
+
+// Plays a script on two buffers, the first to begin with, and answers what waits in each at the end: the script turns to the
+// first again.
+pub(crate) fn play<'a, 's, R: Sample, W: Waiting<'a, R>>(
+    rt: &impl Abort,
+    alloc: Global,
+    kind: Kind,
+    first: &'a mut [Change<R>],
+    second: &'a mut [Change<R>],
+    spare: &'a mut [Change<R>],
+    script: Script<'s>,
+) -> Result<(List<'s>, List<'s>), Fail> {
+    let mut first = W::new(first).map_err(Refusal::from)?;
+    let mut second = W::new(second).map_err(Refusal::from)?;
+    let mut spare = W::new(spare).map_err(Refusal::from)?;
+    let mut lists: (List<'s>, List<'s>) = (&[], &[]);
+    for (step, (act, waits)) in script.iter().enumerate() {
+        perform::<R, W>(rt, alloc, step, *act, &mut first, &mut second)?;
+        let (before, other) = match act {
+            Act::CopyOver => (lists.0, lists.0),
+            Act::Turn => (lists.1, lists.0),
+            _ => lists,
+        };
+        lists = (kind.list(before, *waits), other);
+        check_list::<R, W>(rt, step, &first, &mut spare, lists.0)?;
+    }
+    Ok(lists)
+}
+
+// Each row of a buffer's memory holds the delta of its pair, and same where it has none, each change by its own record.
+pub(crate) fn check_memory<R: Sample>(
+    rt: &impl Abort,
+    kind: Kind,
+    changes: &[Change<R>],
+    list: List<'_>,
+) -> Result<(), Fail> {
+    for (i, row) in changes.chunks(FIELD_LIMIT).enumerate() {
+        check_delta(rt, i, row, kind.row(list, i))?;
+    }
+    Ok(())
+}
