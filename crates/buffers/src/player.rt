@@ -178,20 +178,61 @@ fn perform<'a, R: Sample, W: Waiting<'a, R>>(
     Ok(())
 }
 
+// Each row of a buffer's memory holds the delta of its pair, and same where it has none, each change by its own record.
+fn check_memory<R: Sample>(
+    rt: &impl Abort,
+    kind: Kind,
+    changes: &[Change<R>],
+    list: List<'_>,
+) -> Result<(), Fail> {
+    for (i, row) in changes.chunks(FIELD_LIMIT).enumerate() {
+        check_delta(rt, i, row, kind.row(list, i))?;
+    }
+    Ok(())
+}
+
+// What is lent to the two buffers of a script, and to the spare one in which lists are read.
+#[derive(Drop)]
+pub(crate) struct Memory<R> {
+    first: Vec<Change<R>>,
+    second: Vec<Change<R>>,
+    spare: Vec<Change<R>>,
+}
+
+impl<R: Sample> Memory<R> {
+    pub(crate) fn new(alloc: Global, len: usize) -> Result<Memory<R>, Fail> {
+        Ok(Memory {
+            first: vec![in alloc; Change::null(); len]?,
+            second: vec![in alloc; Change::null(); len]?,
+            spare: vec![in alloc; Change::null(); len]?,
+        })
+    }
+
+    // It holds what waits in the two buffers, and nothing waits in the spare one.
+    pub(crate) fn check(
+        &self,
+        rt: &impl Abort,
+        kind: Kind,
+        lists: (List<'_>, List<'_>),
+    ) -> Result<(), Fail> {
+        check_memory(rt, kind, &self.first, lists.0)?;
+        check_memory(rt, kind, &self.second, lists.1)?;
+        check_memory(rt, kind, &self.spare, &[])
+    }
+}
+
 // Plays a script on two buffers, the first to begin with, and answers what waits in each at the end: the script turns to the
 // first again.
 pub(crate) fn play<'a, 's, R: Sample, W: Waiting<'a, R>>(
     rt: &impl Abort,
     alloc: Global,
     kind: Kind,
-    first: &'a mut [Change<R>],
-    second: &'a mut [Change<R>],
-    spare: &'a mut [Change<R>],
+    memory: &'a mut Memory<R>,
     script: Script<'s>,
 ) -> Result<(List<'s>, List<'s>), Fail> {
-    let mut first = W::new(first).map_err(Refusal::from)?;
-    let mut second = W::new(second).map_err(Refusal::from)?;
-    let mut spare = W::new(spare).map_err(Refusal::from)?;
+    let mut first = W::new(&mut memory.first).map_err(Refusal::from)?;
+    let mut second = W::new(&mut memory.second).map_err(Refusal::from)?;
+    let mut spare = W::new(&mut memory.spare).map_err(Refusal::from)?;
     let mut lists: (List<'s>, List<'s>) = (&[], &[]);
     for (step, (act, waits)) in script.iter().enumerate() {
         perform::<R, W>(rt, alloc, step, *act, &mut first, &mut second)?;
@@ -204,17 +245,4 @@ pub(crate) fn play<'a, 's, R: Sample, W: Waiting<'a, R>>(
         check_list::<R, W>(rt, step, &first, &mut spare, lists.0)?;
     }
     Ok(lists)
-}
-
-// Each row of a buffer's memory holds the delta of its pair, and same where it has none, each change by its own record.
-pub(crate) fn check_memory<R: Sample>(
-    rt: &impl Abort,
-    kind: Kind,
-    changes: &[Change<R>],
-    list: List<'_>,
-) -> Result<(), Fail> {
-    for (i, row) in changes.chunks(FIELD_LIMIT).enumerate() {
-        check_delta(rt, i, row, kind.row(list, i))?;
-    }
-    Ok(())
 }

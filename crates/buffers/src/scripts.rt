@@ -1,7 +1,7 @@
 // Runs of each kind of buffer, with each kind of value.
 use crate::player::Act::{CopyOver, DropFirst, Forget, Put, PutAll, PutUnfit, Takes, Turn};
 use crate::player::Waits::{Both, Each, Empty, Still};
-use crate::player::{FULL, Kind, NOTHING, Script, TAKEN, check_memory, play};
+use crate::player::{FULL, Kind, Memory, NOTHING, Script, TAKEN, play};
 use crate::sample::Sample;
 use crate::single::Single;
 use row::{CELL_LIMIT, Change, FIELD_LIMIT, LogicRecord, Mark, TextRecord};
@@ -10,27 +10,15 @@ use std::process::Abort;
 use std::test::*;
 use waiting::{Marks, QUEUE_LIMIT, Queue, Waiting};
 
-// Plays a script on queues, and looks at the memory that they leave.
+// Plays a script on buffers of a kind, and looks at the memory that they leave.
 fn play_queue_of<R: Sample>(
     rt: &impl Abort,
     alloc: Global,
     script: Script<'_>,
 ) -> Result<(), Fail> {
-    let mut first = vec![in alloc; Change::null(); QUEUE_LIMIT]?;
-    let mut second = vec![in alloc; Change::null(); QUEUE_LIMIT]?;
-    let mut spare = vec![in alloc; Change::null(); QUEUE_LIMIT]?;
-    let lists = play::<R, Queue<'_, R>>(
-        rt,
-        alloc,
-        Kind::Queue,
-        &mut first,
-        &mut second,
-        &mut spare,
-        script,
-    )?;
-    check_memory(rt, Kind::Queue, &first, lists.0)?;
-    check_memory(rt, Kind::Queue, &second, lists.1)?;
-    check_memory(rt, Kind::Queue, &spare, &[])
+    let mut memory = Memory::new(alloc, QUEUE_LIMIT)?;
+    let lists = play::<R, Queue<'_, R>>(rt, alloc, Kind::Queue, &mut memory, script)?;
+    memory.check(rt, Kind::Queue, lists)
 }
 
 fn play_queue(rt: &impl Abort, alloc: Global, script: Script<'_>) -> Result<(), Fail> {
@@ -38,27 +26,14 @@ fn play_queue(rt: &impl Abort, alloc: Global, script: Script<'_>) -> Result<(), 
     play_queue_of::<LogicRecord>(rt, alloc, script)
 }
 
-// Plays a script on marks, and looks at the memory that they leave.
 fn play_marks_of<R: Sample>(
     rt: &impl Abort,
     alloc: Global,
     script: Script<'_>,
 ) -> Result<(), Fail> {
-    let mut first = vec![in alloc; Change::null(); CELL_LIMIT]?;
-    let mut second = vec![in alloc; Change::null(); CELL_LIMIT]?;
-    let mut spare = vec![in alloc; Change::null(); CELL_LIMIT]?;
-    let lists = play::<R, Marks<'_, R>>(
-        rt,
-        alloc,
-        Kind::Marks,
-        &mut first,
-        &mut second,
-        &mut spare,
-        script,
-    )?;
-    check_memory(rt, Kind::Marks, &first, lists.0)?;
-    check_memory(rt, Kind::Marks, &second, lists.1)?;
-    check_memory(rt, Kind::Marks, &spare, &[])
+    let mut memory = Memory::new(alloc, CELL_LIMIT)?;
+    let lists = play::<R, Marks<'_, R>>(rt, alloc, Kind::Marks, &mut memory, script)?;
+    memory.check(rt, Kind::Marks, lists)
 }
 
 fn play_marks(rt: &impl Abort, alloc: Global, script: Script<'_>) -> Result<(), Fail> {
@@ -66,27 +41,15 @@ fn play_marks(rt: &impl Abort, alloc: Global, script: Script<'_>) -> Result<(), 
     play_marks_of::<LogicRecord>(rt, alloc, script)
 }
 
-// Plays a script on singles, each a queue of one pair, and looks at the memory that they leave.
+// A single lists and lays out what waits as a queue of one pair does.
 fn play_single_of<R: Sample>(
     rt: &impl Abort,
     alloc: Global,
     script: Script<'_>,
 ) -> Result<(), Fail> {
-    let mut first = vec![in alloc; Change::null(); FIELD_LIMIT]?;
-    let mut second = vec![in alloc; Change::null(); FIELD_LIMIT]?;
-    let mut spare = vec![in alloc; Change::null(); FIELD_LIMIT]?;
-    let lists = play::<R, Single<'_, R>>(
-        rt,
-        alloc,
-        Kind::Queue,
-        &mut first,
-        &mut second,
-        &mut spare,
-        script,
-    )?;
-    check_memory(rt, Kind::Queue, &first, lists.0)?;
-    check_memory(rt, Kind::Queue, &second, lists.1)?;
-    check_memory(rt, Kind::Queue, &spare, &[])
+    let mut memory = Memory::new(alloc, FIELD_LIMIT)?;
+    let lists = play::<R, Single<'_, R>>(rt, alloc, Kind::Queue, &mut memory, script)?;
+    memory.check(rt, Kind::Queue, lists)
 }
 
 fn play_single(rt: &impl Abort, alloc: Global, script: Script<'_>) -> Result<(), Fail> {
