@@ -6,9 +6,9 @@ use Rattle.row.specs.Rows.{Change, becomes, null, all_same}
 use Rattle.waiting.specs.Lists.{Pair, joined}
 use Rattle.waiting.specs.Policies.{Policy, Put, Lawful}
 
--- what is put leaves the list as it is
+-- what is put and taken leaves the list as it is
 abbrev pub DropsAll : Policy → Type 0
-DropsAll b = (l : List Pair) (t : ℕ) (d : List Change) → b.after l t d ≡ l
+DropsAll b = (l : List Pair) (t : ℕ) (d : List Change) → Put b l t d → b.after l t d ≡ l
 
 -- nothing is ever taken
 abbrev pub RefusesAll : Policy → Type 0
@@ -17,8 +17,8 @@ RefusesAll b = (l : List Pair) (t : ℕ) → b.takes l t ≡ false
 pub not-dropping : (b : Policy) → DropsAll b → Lawful b → true ≡ false
 not-dropping b drops law =
     let d = replicate field_limit (becomes null) in
-    let put : Put b [] 1 d = record { listed = law.empty-held; known = refl; whole = refl; taken = law.empty-takes 1 } in
-    ap all_same (sym (ap (joined 1) (drops [] 1 d)) ∙ law.joins [] 1 d put)
+    let put : Put b [] 1 d = record { listed = law.empty-held; known = refl; whole = refl; taken = law.empty-takes 1 refl } in
+    ap all_same (sym (ap (joined 1) (drops [] 1 d put)) ∙ law.joins [] 1 d put)
 
 pub not-refusing : (b : Policy) → RefusesAll b → Lawful b → true ≡ false
-not-refusing b refuses law = sym (law.empty-takes 1) ∙ refuses [] 1
+not-refusing b refuses law = sym (law.empty-takes 1 refl) ∙ refuses [] 1

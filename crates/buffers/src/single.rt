@@ -58,11 +58,15 @@ impl<'a, R: Value> Waiting<'a, R> for Single<'a, R> {
 
     ghost list = { λ s. pairs_in R.kind (option_to_list s.tap) s.changes.now };
 
-    ghost places = { λ s. s.changes.now };
+    ghost memory = { λ s. s.changes.now };
 
     ghost lent = { λ s. s.changes.ghost_name };
 
     ghost lawful = { single-lawful };
+
+    fn places() -> usize {
+        FIELD_LIMIT
+    }
 
     fn new(changes: &'a mut [Change<R>]) -> Result<Single<'a, R>, Unfit<'a, R>> {
         if changes.len() != FIELD_LIMIT {
@@ -121,5 +125,9 @@ impl<'a, R: Value> Waiting<'a, R> for Single<'a, R> {
 
     fn count(&self) -> usize {
         usize::from(self.tap.is_some())
+    }
+
+    fn memory(&self) -> &[Change<R>] {
+        self.changes
     }
 }

@@ -22,6 +22,10 @@ number_of Wire = 14
 number_of Nothing = 15
 number_of Length = 16
 
+-- the refusal for a fault that has no place
+abbrev pub refusal : Fault → Refusal
+refusal f = record { fault = f; place = 0 }
+
 -- the fault's number, a space and the place
 abbrev pub printed : Refusal → List ℕ
 printed r = decimal (number_of r.fault) ++ 32 ∷ decimal r.place

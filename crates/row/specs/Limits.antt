@@ -1,5 +1,5 @@
 -- The limits of rows, taps and values.
-use Rattle.std.specs.Prelude.{ℕ}
+use Rattle.std.specs.Prelude.{ℕ, ◌*◌}
 
 -- the fields of a row, and so the cells of a row and the changes of a delta in memory
 abbrev pub field_limit : ℕ
@@ -11,7 +11,7 @@ tap_limit = 8
 
 -- a place for each field of each tap
 abbrev pub cell_limit : ℕ
-cell_limit = 96
+cell_limit = field_limit * tap_limit
 
 -- the bytes of a value's text
 abbrev pub text_limit : ℕ

@@ -1,6 +1,7 @@
 -- What the plain records of memory mean, and what changing and joining make of them.
 use Rattle.std.specs.Prelude.{Bool, true, false, cond, ◌&&◌, List, length, Ok, Err, Result, ◌==◌}
 use Rattle.row.specs.Limits.{field_limit}
+use Rattle.row.specs.Faults.{refusal}
 use Rattle.row.specs.Kinds.{Kind, rest_record}
 use Rattle.row.specs.Rows as rows
 use Rattle.row.specs.Rows.{null, value, same, becomes}
@@ -69,7 +70,7 @@ abbrev pub rows_fit : {X Y : Type 0} → List X → List Y → Bool
 rows_fit xs ys = length xs == field_limit && length ys == field_limit
 
 abbrev pub memory_refusal : Refusal
-memory_refusal = record { fault = Memory; place = 0 }
+memory_refusal = refusal Memory
 
 -- the answer of a call that only asks that its memory fits
 abbrev pub answer_if : Bool → Result (Unit {0}) Refusal

@@ -1,5 +1,6 @@
 -- Which numbers are a tap's.
 use Rattle.std.specs.Prelude.{ℕ, Bool, cond, ◌&&◌, nat_le, Result, Ok, Err}
+use Rattle.row.specs.Faults.{refusal}
 use Rattle.row.specs.Limits.{tap_limit}
 use Rattle.row.specs.declared.fault.Fault.TheVariants.{Absent}
 use Rattle.row.specs.declared.fault.Refusal.{Refusal}
@@ -7,9 +8,6 @@ use Rattle.row.specs.declared.fault.Refusal.{Refusal}
 abbrev pub is_tap : ℕ → Bool
 is_tap n = nat_le 1 n && nat_le n tap_limit
 
-abbrev pub absent_refusal : Refusal
-absent_refusal = record { fault = Absent; place = 0 }
-
 -- a number, if it is a tap's
 abbrev pub tap_numbered : ℕ → Result ℕ Refusal
-tap_numbered n = cond (is_tap n) (Ok n) (Err absent_refusal)
+tap_numbered n = cond (is_tap n) (Ok n) (Err (refusal Absent))

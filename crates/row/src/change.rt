@@ -109,9 +109,7 @@ impl<R: Value> Change<R> {
             raw: R::rest(),
         }
     }
-}
 
-impl<R: Value> Change<R> {
     // The change by the record that memory holds for its meaning.
     pub fn canonical(self) -> Change<R>
         ensures record { result ≡ canonical R.kind self }

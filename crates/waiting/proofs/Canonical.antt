@@ -1,5 +1,5 @@
 -- Rows among others, and changes by the records of their meaning.
-use Rattle.std.proofs.Common.{◌≡◌, ℕ, ◌+◌, ◌-◌, ◌*◌, ◌≤◌, List, [], ◌∷◌, ◌++◌, map, length, take, drop, sym, refl, ap, ◌∙◌, arith}
+use Rattle.std.proofs.Common.{◌≡◌, ℕ, ◌+◌, ◌*◌, ◌≤◌, List, ◌++◌, map, length, take, drop, sym, ap, ◌∙◌, arith}
 use Rattle.std.proofs.lemmas.List.{length-append, length-drop, length-take-le, map-append, take-append-drop, take-map, drop-map, drop-drop}
 use Rattle.row.specs.Canonical.{means-canonical}
 use Rattle.row.specs.Kinds.{Kind, Lawful}
@@ -15,10 +15,6 @@ module _ {X : Type 0} (i : ℕ) (places : List X) where
       ap (λ l. take (field_limit * i) places ++ (row_at i places ++ l)) (sym (drop-drop field_limit (field_limit * i) places))
       ∙ ap (λ l. take (field_limit * i) places ++ l) (take-append-drop field_limit (drop (field_limit * i) places))
       ∙ take-append-drop (field_limit * i) places
-
-  -- a row as the code cuts it out
-  pub row-read : take (field_limit * i + field_limit - field_limit * i) (drop (field_limit * i) places) ≡ row_at i places
-  row-read = let e : field_limit * i + field_limit - field_limit * i ≡ field_limit = omega arith in ap (λ n. take n (drop (field_limit * i) places)) e
 
   pub length-row_at : field_limit * i + field_limit ≤ length places → length (row_at i places) ≡ field_limit
   length-row_at h = length-take-le field_limit (drop (field_limit * i) places) (omega (arith, length-drop (field_limit * i) places))
@@ -37,14 +33,14 @@ map-with_row f i row places =
     ∙ ap (λ l. map f front ++ l) (map-append f row back)
     ∙ (λ j. sym (take-map f (field_limit * i) places) j ++ (map f row ++ sym (drop-map f (field_limit * i + field_limit) places) j))
 
-pub length-over : {X Y : Type 0} (f : X → Y → X) (xs : List X) (ys : List Y) → length (over f xs ys) ≡ length xs
-length-over f [] ys = refl
-length-over f (x ∷ xs) [] = refl
-length-over f (x ∷ xs) (y ∷ ys) = omega (arith, length-over f xs ys)
-
 module _ {R : Type 0} (k : Kind R) where
-  pub canonical-part : (n m : ℕ) (cs : List (Change R)) → cs ≡ map (canonical k) cs → take n (drop m cs) ≡ map (canonical k) (take n (drop m cs))
-  canonical-part n m cs e = ap (λ l. take n (drop m l)) e ∙ ap (take n) (drop-map (canonical k) m cs) ∙ take-map (canonical k) n (drop m cs)
+  pub canonical-row : (i : ℕ) (row cs : List (Change R)) → row ≡ row_at i cs → cs ≡ map (canonical k) cs → row ≡ map (canonical k) row
+  canonical-row i row cs is e =
+      is
+      ∙ ap (row_at i) e
+      ∙ ap (take field_limit) (drop-map (canonical k) (field_limit * i) cs)
+      ∙ take-map (canonical k) field_limit (drop (field_limit * i) cs)
+      ∙ ap (map (canonical k)) (sym is)
 
   -- the records of rows and of what is around them
   pub canonical-with_row : (i : ℕ) (row cs : List (Change R)) → row ≡ map (canonical k) row → cs ≡ map (canonical k) cs → with_row i row cs ≡ map (canonical k) (with_row i row cs)

@@ -6,19 +6,21 @@ use Rattle.std.proofs.lemmas.Bool.{and_from, and_parts, cond-true, cond-false, e
 use Rattle.std.proofs.Math.Nat.{add-zero}
 use Rattle.std.proofs.lemmas.List.{append-nil, length-drop, length-map, length-take-le, map-append, nil_from_length, take-append-drop, take-append-le, drop-append-le, take_at, drop_at, drop-drop}
 use Rattle.row.specs.Canonical.{canonical-map, canonical-canonical}
+use Rattle.row.specs.Faults.{refusal}
+use Rattle.row.specs.declared.fault.Fault.TheVariants.{Absent}
 use Rattle.row.specs.Kinds.{Kind, Lawful}
 use Rattle.row.specs.Limits.{field_limit, tap_limit, cell_limit}
 use Rattle.row.specs.Records.{canonical, change_of, held, later}
 use Rattle.row.specs.Rows as rows
 use Rattle.row.specs.Rows.{same, over, join, all_same, row_at, with_row}
-use Rattle.row.specs.Taps.{is_tap, tap_numbered, absent_refusal}
+use Rattle.row.specs.Taps.{is_tap, tap_numbered}
 use Rattle.row.specs.declared.change.Change.{Change}
 use Rattle.waiting.specs.Lists.{Pair, pair, is_for, may_wait, joined, without, pair_of_changes}
-use Rattle.waiting.specs.ListsLaws.{filter_keep, filter_skip, join-onto, join-changing, blank-from, joined-other, may_wait-from, pair_cases, flat_map-range}
-use Rattle.waiting.specs.Marks.{rising, marked, marks, marks_in}
+use Rattle.waiting.specs.ListsLaws.{length-over, filter_keep, filter_skip, join-onto, join-changing, blank-from, joined-other, may_wait-from, pair_cases, flat_map-range}
+use Rattle.waiting.specs.Marks.{rising, marked, marks, marks_in, marks_of}
 use Rattle.waiting.specs.MarksLaws.{joined-above, joined-own, not_for, others_above, rising-cons, rising-less, rising-parts}
 use Rattle.waiting.specs.Policies.{Kept, first, put_list}
-use Rattle.waiting.proofs.Canonical.{row-read, with_row-own, length-row_at, length-with_row, length-over, canonical-with_row, joined-means}
+use Rattle.waiting.proofs.Canonical.{with_row-own, length-row_at, length-with_row, canonical-with_row, joined-means}
 
 -- what waits for lower taps in front
 abbrev below : ℕ → List Pair → Bool
@@ -72,7 +74,7 @@ first-removed n t x (p ∷ l) e f =
 numbered : (t n : ℕ) → Ok t ≡ tap_numbered n → t ≡ n
 numbered t n = from (is_tap n)
   where
-    from : (b : Bool) → Ok t ≡ cond b (Ok n) (Err absent_refusal) → t ≡ n
+    from : (b : Bool) → Ok t ≡ cond b (Ok n) (Err (refusal Absent)) → t ≡ n
     from true e = cc
     from false e = cc
 
@@ -207,9 +209,9 @@ module _ {R : Type 0} (k : Kind R) where
   marks_from i cs = marks_in k (tap_limit - i) (1 + i) (drop (field_limit * i) cs)
 
   -- b answers whether the row with index i is only same
-  module _ (i : ℕ) (cs : List (Change R)) (b : Bool) (inside : i < tap_limit) (long : length cs ≡ cell_limit) (test : b ≡ all_same (means (take (field_limit * i + field_limit - field_limit * i) (drop (field_limit * i) cs)))) where
+  module _ (i : ℕ) (cs : List (Change R)) (b : Bool) (inside : i < tap_limit) (long : length cs ≡ cell_limit) (row : List (Change R)) (is : row ≡ row_at i cs) (test : b ≡ all_same (means row)) where
     row-test : all_same (means (row_at i cs)) ≡ b
-    row-test = sym (test ∙ ap (λ r. all_same (means r)) (row-read i cs))
+    row-test = sym (test ∙ ap (λ r. all_same (means r)) is)
 
     pub marks_skip : b ≡ true → marks_from i cs ≡ marks_from (i + 1) cs
     marks_skip e = marks-next tap_limit 1 i cs inside long ∙ ap (λ l. l ++ marks_from (i + 1) cs) (cond-true (all_same (means (row_at i cs))) _ _ (row-test ∙ e))
@@ -225,46 +227,46 @@ module _ {R : Type 0} (k : Kind R) where
   marks_all i cs h = let e : tap_limit - i ≡ 0 = omega arith in ap (λ n. marks_in k n (1 + i) (drop (field_limit * i) cs)) e
 
   -- the kind keeps the records of what each change means, and no more is asked
-  marks-kept : (cs : List (Change R)) → length cs ≡ cell_limit → cs ≡ map (canonical k) cs → Kept k marks cs (marks_in k tap_limit 1 cs)
+  marks-kept : (cs : List (Change R)) → length cs ≡ cell_limit → cs ≡ map (canonical k) cs → Kept k marks cs (marks_of k cs)
   marks-kept cs long e = record {
     listed = and_from _ _ (marks-rising tap_limit 0 1 cs (omega arith)) (marks-wait tap_limit 1 cs (omega arith) (omega arith) long);
     laid = e ∙ canonical-map k cs ∙ ap (map (held k)) (sym (marks-layout tap_limit 1 cs long));
   }
 
-  pub kept-canonical : (cs : List (Change R)) → length cs ≡ cell_limit → Kept k marks cs (marks_in k tap_limit 1 cs) → cs ≡ map (canonical k) cs
+  pub kept-canonical : (cs : List (Change R)) → length cs ≡ cell_limit → Kept k marks cs (marks_of k cs) → cs ≡ map (canonical k) cs
   kept-canonical cs long h = h.laid ∙ ap (map (held k)) (marks-layout tap_limit 1 cs long) ∙ sym (canonical-map k cs)
 
   -- the pair that is shown
-  pub shown : (cs : List (Change R)) (i t : ℕ) (l : List Pair) → Ok t ≡ tap_numbered (i + 1) → first l ≡ Ok (pair (i + 1) (means (row_at i cs))) → Ok (pair t (means (take (field_limit * i + field_limit - field_limit * i) (drop (field_limit * i) cs)))) ≡ first l
-  shown cs i t l e found =
-      (λ j. Ok (pair (numbered t (i + 1) e j) (means (row-read i cs j)))) ∙ sym found
+  pub shown : (cs : List (Change R)) (i t : ℕ) (l : List Pair) → Ok t ≡ tap_numbered (i + 1) → first l ≡ Ok (pair (i + 1) (means (row_at i cs))) → (row : List (Change R)) → row ≡ row_at i cs → Ok (pair t (means row)) ≡ first l
+  shown cs i t l e found row is =
+      (λ j. Ok (pair (numbered t (i + 1) e j) (means (is j)))) ∙ sym found
 
   -- the rows of all taps after another row is put
   module _ (cs new row : List (Change R)) (i : ℕ) (long : length cs ≡ cell_limit) (inside : i < tap_limit) (put : new ≡ with_row i row cs) (whole : length row ≡ field_limit) where
-    row-kept : row ≡ map (canonical k) row → Kept k marks cs (marks_in k tap_limit 1 cs) → Kept k marks new (marks_in k tap_limit 1 new)
+    row-kept : row ≡ map (canonical k) row → Kept k marks cs (marks_of k cs) → Kept k marks new (marks_of k new)
     row-kept e h =
-        subst (λ x. Kept k marks x (marks_in k tap_limit 1 x)) (sym put)
+        subst (λ x. Kept k marks x (marks_of k x)) (sym put)
         (marks-kept (with_row i row cs) (length-with_row i cs row (omega arith) whole ∙ long) (canonical-with_row k i row cs e (kept-canonical cs long h)))
 
-    row-cleared : all_same (means row) ≡ true → marks_in k tap_limit 1 new ≡ without (1 + i) (marks_in k tap_limit 1 cs)
-    row-cleared e = ap (marks_in k tap_limit 1) put ∙ marks-cleared tap_limit 1 i cs inside long row whole e
+    row-cleared : all_same (means row) ≡ true → marks_of k new ≡ without (1 + i) (marks_of k cs)
+    row-cleared e = ap (marks_of k) put ∙ marks-cleared tap_limit 1 i cs inside long row whole e
 
-    row-joined : (d : List rows.Change) → length d ≡ field_limit → means row ≡ join (means (row_at i cs)) d → marks_in k tap_limit 1 new ≡ marked (marks_in k tap_limit 1 cs) (1 + i) d
-    row-joined d l e = ap (marks_in k tap_limit 1) put ∙ marks-joined tap_limit 1 i cs inside long row d whole l e
+    row-joined : (d : List rows.Change) → length d ≡ field_limit → means row ≡ join (means (row_at i cs)) d → marks_of k new ≡ marked (marks_of k cs) (1 + i) d
+    row-joined d l e = ap (marks_of k) put ∙ marks-joined tap_limit 1 i cs inside long row d whole l e
 
   module _ (cs new : List (Change R)) (i : ℕ) (long : length cs ≡ cell_limit) (inside : i < tap_limit) where
     -- after `clear_row`
     module _ (put : new ≡ with_row i (replicate field_limit (held k same)) cs) where
-      pub cleared-kept : Kept k marks cs (marks_in k tap_limit 1 cs) → Kept k marks new (marks_in k tap_limit 1 new)
+      pub cleared-kept : Kept k marks cs (marks_of k cs) → Kept k marks new (marks_of k new)
       cleared-kept = row-kept cs new (replicate field_limit (held k same)) i long inside put refl refl
 
-      pub cleared : (t : ℕ) → 1 + i ≡ t → marks_in k tap_limit 1 new ≡ without t (marks_in k tap_limit 1 cs)
-      cleared t e = row-cleared cs new (replicate field_limit (held k same)) i long inside put refl refl ∙ ap (λ u. without u (marks_in k tap_limit 1 cs)) e
+      pub cleared : (t : ℕ) → 1 + i ≡ t → marks_of k new ≡ without t (marks_of k cs)
+      cleared t e = row-cleared cs new (replicate field_limit (held k same)) i long inside put refl refl ∙ ap (λ u. without u (marks_of k cs)) e
 
-      pub cleared-first : first (marks_in k tap_limit 1 cs) ≡ Ok (pair (i + 1) (means (row_at i cs))) → marks_in k tap_limit 1 new ≡ drop 1 (marks_in k tap_limit 1 cs)
+      pub cleared-first : first (marks_of k cs) ≡ Ok (pair (i + 1) (means (row_at i cs))) → marks_of k new ≡ drop 1 (marks_of k cs)
       cleared-first f =
           cleared (i + 1) (omega arith)
-          ∙ first-removed 0 (i + 1) (means (row_at i cs)) (marks_in k tap_limit 1 cs) (marks-rising tap_limit 0 1 cs (omega arith)) f
+          ∙ first-removed 0 (i + 1) (means (row_at i cs)) (marks_of k cs) (marks-rising tap_limit 0 1 cs (omega arith)) f
 
     -- after `join_row`
     module _ (law : Lawful k) (delta : List (Change R)) (whole : length delta ≡ field_limit) (put : new ≡ with_row i (map (canonical k) (over later (row_at i cs) delta)) cs) where
@@ -274,12 +276,12 @@ module _ {R : Type 0} (k : Kind R) where
           ∙ length-over later (row_at i cs) delta
           ∙ length-row_at i cs (omega arith)
 
-      pub joined-kept : Kept k marks cs (marks_in k tap_limit 1 cs) → Kept k marks new (marks_in k tap_limit 1 new)
+      pub joined-kept : Kept k marks cs (marks_of k cs) → Kept k marks new (marks_of k new)
       joined-kept = row-kept cs new (map (canonical k) (over later (row_at i cs) delta)) i long inside put long-joined (canonical-canonical k law (over later (row_at i cs) delta))
 
-      pub joined-list : (t : ℕ) → 1 + i ≡ t → marks_in k tap_limit 1 new ≡ put_list marks (marks_in k tap_limit 1 cs) t (means delta)
+      pub joined-list : (t : ℕ) → 1 + i ≡ t → marks_of k new ≡ put_list marks (marks_of k cs) t (means delta)
       joined-list t e =
           let fits : length (means delta) ≡ field_limit = length-map delta (change_of k) ∙ whole in
           row-joined cs new (map (canonical k) (over later (row_at i cs) delta)) i long inside put long-joined (means delta) fits (joined-means k law (row_at i cs) delta)
-          ∙ ap (λ u. marked (marks_in k tap_limit 1 cs) u (means delta)) e
+          ∙ ap (λ u. marked (marks_of k cs) u (means delta)) e
           ∙ sym (cond-true (length (means delta) == field_limit && true) _ _ (and_from _ _ (eq-eqb (length (means delta)) field_limit fits) refl))

@@ -15,7 +15,7 @@ use Rattle.row.specs.Taps.{is_tap}
 use Rattle.row.specs.declared.change.Change.{Change}
 use Rattle.waiting.specs.Limits.{pair_limit}
 use Rattle.waiting.specs.Lists.{Pair, pair, may_wait, deltas}
-use Rattle.waiting.specs.ListsLaws.{waits}
+use Rattle.waiting.specs.ListsLaws.{waits, length-deltas}
 use Rattle.waiting.specs.Policies.{Kept, drop_answer}
 use Rattle.waiting.specs.QueueLaws.{queue-lawful}
 use Rattle.waiting.specs.Queues.{pairs_in, queue, queue_of}
@@ -83,12 +83,6 @@ module _ {R : Type 0} (k : Kind R) where
       ap (pairs_in k (t ∷ remove ts i)) ((λ j. take-rows cs i j ++ (drop-rows cs i field_limit j ++ more)) ∙ append_assoc (take field_limit cs) (take (field_limit * i) (drop field_limit cs)) _)
       ∙ first-row t (remove ts i) (take field_limit cs) _ (length-take-le field_limit cs (omega arith))
       ∙ ap (λ l. pair t (map (change_of k) (take field_limit cs)) ∷ l) (pairs-removed ts i (drop field_limit cs) more (omega arith) (omega (arith, length-drop field_limit cs)))
-
-pub length-deltas : (l : List Pair) → list_all may_wait l ≡ true → length (deltas l) ≡ field_limit * length l
-length-deltas [] e = refl
-length-deltas (p ∷ l) e =
-    let w = waits p l e in
-    omega (arith, length-append p.delta (deltas l), w.long, length-deltas l w.rest)
 
 deltas-removed : (l : List Pair) (i : ℕ) → list_all may_wait l ≡ true → i < length l → take (field_limit * i) (deltas l) ++ drop (field_limit * i + field_limit) (deltas l) ≡ deltas (remove l i)
 deltas-removed [] i e h = absurd (not-suc-le-zero h)

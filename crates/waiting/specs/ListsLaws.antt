@@ -1,18 +1,29 @@
 -- What joining and listing keep.
-use Rattle.std.specs.Prelude.{◌≡◌, ℕ, zero, suc, ◌+◌, ◌≤◌, Bool, true, false, not, ◌&&◌, List, [], ◌∷◌, ◌++◌, map, length, fold, filter, flat_map, ◌==◌}
+use Rattle.std.specs.Prelude.{◌≡◌, ℕ, zero, suc, ◌+◌, ◌*◌, ◌≤◌, Bool, true, false, not, ◌&&◌, List, [], ◌∷◌, ◌++◌, map, length, fold, filter, flat_map, ◌==◌}
 use Rattle.std.proofs.Common.{sym, refl, ap, ◌∙◌, arith}
 use Rattle.std.specs.List.{list_all, range_with_len}
 use Rattle.std.proofs.lemmas.Bool.{and_from, and_parts, cond_both, cond-true, cond-false, eq-eqb, eqb-true, not-true, not_from_false, false≢true}
+use Rattle.std.proofs.lemmas.List.{length-append}
 use Rattle.std.proofs.lemmas.List.Sums.{sum_by-append}
 use Rattle.row.specs.Limits.{field_limit}
-use Rattle.row.specs.Rows.{Change, same, becomes, join, blank, all_same}
+use Rattle.row.specs.Rows.{Change, same, becomes, over, join_change, join, blank, all_same}
 use Rattle.row.specs.Taps.{is_tap}
-use Rattle.waiting.specs.Lists.{Pair, pair, is_for, may_wait, joined, waiting_for, changing, pair_of_changes}
+use Rattle.waiting.specs.Lists.{Pair, pair, is_for, may_wait, joined, deltas, waiting_for, changing, pair_of_changes}
+
+pub length-over : {X Y : Type 0} (f : X → Y → X) (xs : List X) (ys : List Y) → length (over f xs ys) ≡ length xs
+length-over f [] ys = refl
+length-over f (x ∷ xs) [] = refl
+length-over f (x ∷ xs) (y ∷ ys) = omega (arith, length-over f xs ys)
 
 pub length-join : (c d : List Change) → length (join c d) ≡ length c
-length-join [] d = refl
-length-join (c ∷ cs) [] = refl
-length-join (c ∷ cs) (d ∷ ds) = omega (arith, length-join cs ds)
+length-join = length-over join_change
+
+length-joins : (c : List Change) (ds : List (List Change)) → length (fold join c ds) ≡ length c
+length-joins c [] = refl
+length-joins c (d ∷ ds) = length-joins (join c d) ds ∙ length-join c d
+
+pub length-joined : (t : ℕ) (l : List Pair) → length (joined t l) ≡ field_limit
+length-joined t l = length-joins blank (waiting_for t l)
 
 -- what only same changes join to
 pub join-same : (c d : List Change) → all_same d ≡ true → join c d ≡ c
@@ -93,6 +104,12 @@ waits p l e =
 pub may_wait-from : (t : ℕ) (d : List Change) → is_tap t ≡ true → length d ≡ field_limit → all_same d ≡ false → may_wait (pair t d) ≡ true
 may_wait-from t d known long other =
     and_from _ _ known (and_from _ _ (eq-eqb (length d) field_limit long) (not_from_false (all_same d) other))
+
+pub length-deltas : (l : List Pair) → list_all may_wait l ≡ true → length (deltas l) ≡ field_limit * length l
+length-deltas [] e = refl
+length-deltas (p ∷ l) e =
+    let w = waits p l e in
+    omega (arith, length-append p.delta (deltas l), w.long, length-deltas l w.rest)
 
 pub changing-append : (c d : List Change) → changing (c ++ d) ≡ changing c + changing d
 changing-append c d = sum_by-append _ c d

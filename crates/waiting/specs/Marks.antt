@@ -33,3 +33,7 @@ marks = record {
 abbrev pub marks_in : {R : Type 0} → Kind R → ℕ → ℕ → List (records.Change R) → List Pair
 marks_in k zero t cs = []
 marks_in k (suc n) t cs = pair_of_changes t (map (change_of k) (take field_limit cs)) ++ marks_in k n (t + 1) (drop field_limit cs)
+
+-- what waits in the memory of marks
+abbrev pub marks_of : {R : Type 0} → Kind R → List (records.Change R) → List Pair
+marks_of k cs = marks_in k tap_limit 1 cs

@@ -1,16 +1,16 @@
 -- The laws of marks.
-use Rattle.std.specs.Prelude.{◌≡◌, ◌≢◌, ℕ, zero, suc, ◌+◌, ◌<◌, ◌≤◌, Bool, true, false, not, cond, List, [], ◌∷◌, ◌++◌, map, length, fold, filter, flat_map, sum_by, nat_lt, nat_le}
+use Rattle.std.specs.Prelude.{◌≡◌, ◌≢◌, ℕ, zero, suc, ◌+◌, ◌*◌, ◌<◌, ◌≤◌, Bool, true, false, not, cond, List, [], ◌∷◌, ◌++◌, map, length, fold, filter, flat_map, sum_by, nat_lt, nat_le}
 use Rattle.std.proofs.Common.{sym, refl, ap, ◌∙◌, ⊎_elim, arith}
 use Rattle.std.proofs.Math.Nat.{zero-add}
 use Rattle.std.specs.List.{list_all, range_with_len}
 use Rattle.std.proofs.lemmas.Bool.{and_from, and_parts, cases_order, cond_both, cond-true, eq-eqb, eqb-true, eqb-false, ne_eqb, lt-ltb, ltb-true, ltb-false, leb-true}
-use Rattle.std.proofs.lemmas.List.{append-nil}
+use Rattle.std.proofs.lemmas.List.{append-nil, length-append}
 use Rattle.std.proofs.lemmas.List.Sums.{sum_by-cons}
 use Rattle.row.specs.Limits.{field_limit, tap_limit}
 use Rattle.row.specs.Rows.{Change, join, blank, all_same}
 use Rattle.row.specs.Taps.{is_tap}
 use Rattle.waiting.specs.Lists.{Pair, pair, is_for, may_wait, joined, without, changing, pair_of_changes}
-use Rattle.waiting.specs.ListsLaws.{length-join, join-same, join-blank, join-changing, filter_keep, filter_skip, list_all-filter, pair_cases, joined-cons, joined-other, waits, may_wait-from, changing-append, flat_map-range}
+use Rattle.waiting.specs.ListsLaws.{length-join, length-joined, join-same, join-blank, join-changing, filter_keep, filter_skip, list_all-filter, pair_cases, joined-cons, joined-other, waits, may_wait-from, changing-append, flat_map-range}
 use Rattle.waiting.specs.Marks.{rising, marked, marks}
 use Rattle.waiting.specs.Policies.{Lawful}
 
@@ -126,6 +126,11 @@ module _ (t : ℕ) (d : List Change) (long : length d ≡ field_limit) where
       (λ _. pair_cases t d (p ∷ l) (λ x. list_all may_wait x ≡ true) (λ _. e) (λ o. and_from _ _ (may_wait-from t d known long o) e))
       (λ _. and_from _ _ m.first (stays-waiting known l m.rest))
 
+lays-long : (n m : ℕ) (l : List Pair) → length (flat_map (λ t. joined t l) (range_with_len m n)) ≡ field_limit * n
+lays-long zero m l = refl
+lays-long (suc n) m l =
+    omega (arith, length-append (joined m l) (flat_map (λ t. joined t l) (range_with_len (m + 1) n)), length-joined m l, lays-long n (m + 1) l)
+
 -- the taps from m + 1 on
 lays : (n m : ℕ) → m + n ≡ tap_limit → (l : List Pair) → rising m l ≡ true → list_all may_wait l ≡ true → changing (flat_map (λ t. joined t l) (range_with_len (m + 1) n)) ≡ sum_by (λ p. changing p.delta) l
 lays zero m h [] e w = refl
@@ -157,7 +162,7 @@ lays (suc n) m h (p ∷ l) e w =
 
 pub marks-lawful : Lawful marks
 marks-lawful = record {
-  empty-takes = λ t. refl;
+  empty-takes = λ t known. refl;
   joins = λ l t d h. let w = and_parts (rising 0 l) _ h.listed in joins t d h.whole 0 l w.0 w.1;
   leaves-others = λ l t d h u ne. ap (λ x. fold join blank (map (λ q. q.delta) x)) (leaves-others t d h.whole u ne l);
   grows = λ l t d h. grows t d h.whole l;
@@ -169,6 +174,7 @@ marks-lawful = record {
   rest-held = λ p l e. let w = and_parts (rising 0 (p ∷ l)) _ e in
       and_from _ _ (rising-less 0 p.tap l (omega arith) (rising-parts 0 p l w.0).1) (waits p l w.1).rest;
   without-held = λ l t e. let w = and_parts (rising 0 l) _ e in and_from _ _ (rising-filter _ 0 l w.0) (list_all-filter may_wait _ l w.1);
+  lays-places = λ l e. lays-long tap_limit 1 l;
   lays-list = λ l e. let w = and_parts (rising 0 l) _ e in lays tap_limit 0 refl l w.0 w.1;
   empty-layout = refl;
 }

@@ -1,13 +1,13 @@
 -- What a kind of waiting buffer is, by lists of pairs alone; and what its calls answer and leave.
 use Rattle.std.specs.Prelude.{◌≡◌, ◌≢◌, ℕ, ◌+◌, ◌≤◌, Bool, true, cond, ◌&&◌, List, [], ◌∷◌, map, length, replicate, sum_by, Ok, Err, Result, ◌==◌}
 use Rattle.std.specs.List.{list_all}
+use Rattle.row.specs.Faults.{refusal}
 use Rattle.row.specs.Kinds.{Kind}
 use Rattle.row.specs.Limits.{field_limit}
 use Rattle.row.specs.Records.{held, memory_refusal}
 use Rattle.row.specs.Rows.{Change, same, join, all_same}
 use Rattle.row.specs.Taps.{is_tap}
 use Rattle.row.specs.declared.change.Change as records
-use Rattle.row.specs.declared.fault.Fault.{Fault}
 use Rattle.row.specs.declared.fault.Fault.TheVariants.{Full, Nothing}
 use Rattle.row.specs.declared.fault.Refusal.{Refusal}
 use Rattle.waiting.specs.Lists.{Pair, may_wait, joined, without, changing}
@@ -34,7 +34,7 @@ pub record Put (b : Policy) (l : List Pair) (t : ℕ) (d : List Change) : Type 0
 -- the laws of a kind
 pub record Lawful (b : Policy) : Type 0 where
   -- where nothing waits, any delta is taken
-  pub empty-takes : (t : ℕ) → b.takes [] t ≡ true
+  pub empty-takes : (t : ℕ) → is_tap t ≡ true → b.takes [] t ≡ true
   -- the join of the tap's waiting deltas is the old one joined with the new delta
   pub joins : (l : List Pair) (t : ℕ) (d : List Change) → Put b l t d → joined t (b.after l t d) ≡ join (joined t l) d
   -- the other taps' joins stay
@@ -50,13 +50,11 @@ pub record Lawful (b : Policy) : Type 0 where
   pub put-held : (l : List Pair) (t : ℕ) (d : List Change) → Put b l t d → b.holds (b.after l t d) ≡ true
   pub rest-held : (p : Pair) (l : List Pair) → b.holds (p ∷ l) ≡ true → b.holds l ≡ true
   pub without-held : (l : List Pair) (t : ℕ) → b.holds l ≡ true → b.holds (without t l) ≡ true
-  -- memory says no more than the list: as many of its changes are not same
+  -- what memory says fills it, and has as many changes that are not same as the list has
+  pub lays-places : (l : List Pair) → b.holds l ≡ true → length (b.layout l) ≡ b.places
   pub lays-list : (l : List Pair) → b.holds l ≡ true → changing (b.layout l) ≡ sum_by (λ p. changing p.delta) l
   -- where nothing waits, the whole memory says same
   pub empty-layout : b.layout [] ≡ replicate b.places same
-
-abbrev pub refusal : Fault → Refusal
-refusal f = record { fault = f; place = 0 }
 
 module _ (b : Policy) (l : List Pair) (t : ℕ) (d : List Change) where
   abbrev pub put_answer : Result (Unit {0}) Refusal

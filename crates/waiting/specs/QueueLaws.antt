@@ -3,16 +3,16 @@ use Rattle.std.specs.Prelude.{◌≡◌, ◌≢◌, ℕ, ◌+◌, ◌-◌, ◌*�
 use Rattle.std.proofs.Common.{sym, ap, ◌∙◌, arith}
 use Rattle.std.specs.List.{list_all}
 use Rattle.std.proofs.lemmas.Bool.{and_parts, and_from, cond_both, cond-true, eq-eqb, ne_eqb, le-leb, leb-true, lt-ltb, ltb-true}
-use Rattle.std.proofs.lemmas.List.{append-nil, length-append, map-append}
+use Rattle.std.proofs.lemmas.List.{append-nil, length-append, length-replicate, map-append}
 use Rattle.std.proofs.lemmas.List.Elements.{filter-append}
 use Rattle.std.proofs.lemmas.List.Folds.{list_all-append, sum_by-replicate}
-use Rattle.std.proofs.lemmas.List.Sums.{fold-append, sum_by-append}
+use Rattle.std.proofs.lemmas.List.Sums.{fold-append, sum_by-append, length-filter, count_by-le-length}
 use Rattle.row.specs.Limits.{field_limit}
 use Rattle.row.specs.Rows.{Change, same, join, blank, all_same}
 use Rattle.row.specs.Taps.{is_tap}
 use Rattle.waiting.specs.Limits.{pair_limit}
 use Rattle.waiting.specs.Lists.{Pair, pair, is_for, may_wait, changing, waiting_for, joined, deltas, without, pair_of_changes}
-use Rattle.waiting.specs.ListsLaws.{join-same, list_all-filter, may_wait-from}
+use Rattle.waiting.specs.ListsLaws.{join-same, length-deltas, list_all-filter, may_wait-from}
 use Rattle.waiting.specs.Policies.{Put, Lawful}
 use Rattle.waiting.specs.Queues.{queue, queue_of}
 
@@ -44,11 +44,8 @@ pair-waits t d tap whole =
     (λ e. and_from _ _ (may_wait-from t d tap whole e) refl)
 
 -- a list without some elements is no longer
-length-filter : {X : Type 0} (q : X → Bool) (xs : List X) → length (filter q xs) ≤ length xs
-length-filter q [] = omega arith
-length-filter q (x ∷ xs) =
-    let rest = length-filter q xs in
-    cond_both (q x) (x ∷ filter q xs) (filter q xs) (λ ys. length ys ≤ length (x ∷ xs)) (λ _. omega arith) (λ _. omega arith)
+fewer : {X : Type 0} (q : X → Bool) (xs : List X) → length (filter q xs) ≤ length xs
+fewer q xs = omega (arith, length-filter q xs, count_by-le-length q xs)
 
 changing-deltas : (l : List Pair) → changing (deltas l) ≡ sum_by (λ p. changing p.delta) l
 changing-deltas [] = refl
@@ -74,7 +71,7 @@ module _ (limit : ℕ) (some : 1 ≤ limit) where
 
   pub queue_of-lawful : Lawful (queue_of limit)
   queue_of-lawful = record {
-    empty-takes = λ t. lt-ltb 0 limit (omega arith);
+    empty-takes = λ t known. lt-ltb 0 limit (omega arith);
     joins = λ l t d p. joined-append t l (pair_of_changes t d) ∙ pair-own t (joined t l) d;
     leaves-others = λ l t d p u ne. joined-append u l (pair_of_changes t d) ∙ pair-other t u (joined u l) d ne;
     grows = λ l t d p. omega (arith, length-append l (pair_of_changes t d), length-pair t d);
@@ -85,7 +82,11 @@ module _ (limit : ℕ) (some : 1 ≤ limit) where
     rest-held = λ p l e. let h = holds-parts (p ∷ l) e in holds-from l (omega (arith, h.0)) (and_parts (may_wait p) (list_all may_wait l) h.1).1;
     without-held = λ l t e.
         let h = holds-parts l e in
-        holds-from (without t l) (omega (arith, h.0, length-filter (λ p. not (is_for t p)) l)) (list_all-filter may_wait (λ p. not (is_for t p)) l h.1);
+        holds-from (without t l) (omega (arith, h.0, fewer (λ p. not (is_for t p)) l)) (list_all-filter may_wait (λ p. not (is_for t p)) l h.1);
+    lays-places = λ l e.
+        let h = holds-parts l e in
+        let unused = length-replicate (field_limit * (limit - length l)) same in
+        length-append (deltas l) (replicate (field_limit * (limit - length l)) same) ∙ omega (arith, length-deltas l h.1, unused, h.0);
     lays-list = λ l e.
         sum_by-append _ (deltas l) (replicate (field_limit * (limit - length l)) same)
         ∙ ap (λ n. changing (deltas l) + n) (sum_by-replicate _ (field_limit * (limit - length l)) same)

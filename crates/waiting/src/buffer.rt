@@ -2,6 +2,7 @@
 ghost use Rattle.std.specs.Prelude.{◌≡◌, List, [], map, length, drop, ◌==◌, IfOk, IfErr, is_ok};
 ghost use Rattle.std.specs.Result.{result_map_both};
 ghost use Rattle.std.specs.Borrow.{GName};
+ghost use Rattle.row.specs.Limits.{field_limit};
 ghost use Rattle.row.specs.Records.{canonical, change_of, memory_refusal};
 ghost use Rattle.waiting.specs.Lists as lists;
 ghost use Rattle.waiting.specs.Lists.{without};
@@ -42,16 +43,20 @@ pub trait Waiting<'a, R: Value>: Drop {
     ghost list: { Self → List lists.Pair };
 
     // The changes in its memory.
-    ghost places: { Self → List (Change R) };
+    ghost memory: { Self → List (Change R) };
 
     // The lent memory, by the name that it keeps.
     ghost lent: { Self → GName };
+
+    // How many changes its memory has.
+    fn places() -> usize
+        ensures { result ≡ policy.places };
 
     // A buffer where nothing waits, if the memory is of its stated length.
     fn new(changes: &'a mut [Change<R>]) -> Result<Self, Unfit<'a, R>>
         ensures answer { is_ok result ≡ (length changes.old == policy.places) }
         ensures empty { IfOk result (λ w. list w ≡ []) }
-        ensures kept { IfOk result (λ w. Kept R.kind policy (places w) (list w)) }
+        ensures kept { IfOk result (λ w. Kept R.kind policy (memory w) (list w)) }
         ensures lent { IfOk result (λ w. lent w ≡ changes.entry.ghost_name) }
         ensures untouched { IfErr result (λ unfit. unfit.changes.now ≡ changes.old) }
         ensures returned { IfErr result (λ unfit. unfit.changes.ghost_name ≡ changes.entry.ghost_name) };
@@ -64,36 +69,41 @@ pub trait Waiting<'a, R: Value>: Drop {
     fn put(&mut self, tap: Tap, delta: &[Change<R>]) -> Result<(), Refusal>
         ensures answer { result ≡ put_answer policy (list self.old) tap.number (map (change_of R.kind) delta.now) }
         ensures list { list self.new ≡ put_list policy (list self.old) tap.number (map (change_of R.kind) delta.now) }
-        ensures kept { Kept R.kind policy (places self.old) (list self.old) → Kept R.kind policy (places self.new) (list self.new) }
+        ensures kept { Kept R.kind policy (memory self.old) (list self.old) → Kept R.kind policy (memory self.new) (list self.new) }
         ensures lent { lent self.new ≡ lent self.old };
 
     // Shows the first pair.
     fn look(&self) -> Result<Pair<'_, R>, Refusal>
+        ensures long { IfOk result (λ p. length p.delta.now ≡ field_limit) }
         ensures pair { result_map_both (pair_of R.kind) (λ e. e) result ≡ first (list self.now) }
-        ensures records { Kept R.kind policy (places self.now) (list self.now) → IfOk result (λ p. p.delta.now ≡ map (canonical R.kind) p.delta.now) };
+        ensures records { Kept R.kind policy (memory self.now) (list self.now) → IfOk result (λ p. p.delta.now ≡ map (canonical R.kind) p.delta.now) };
 
     // Removes the first pair.
     fn drop_first(&mut self) -> Result<(), Refusal>
         ensures answer { result ≡ drop_answer (list self.old) }
         ensures list { list self.new ≡ drop 1 (list self.old) }
-        ensures kept { Kept R.kind policy (places self.old) (list self.old) → Kept R.kind policy (places self.new) (list self.new) }
+        ensures kept { Kept R.kind policy (memory self.old) (list self.old) → Kept R.kind policy (memory self.new) (list self.new) }
         ensures lent { lent self.new ≡ lent self.old };
 
     // Removes a tap's pairs.
     fn forget(&mut self, tap: Tap)
         ensures list { list self.new ≡ without tap.number (list self.old) }
-        ensures kept { Kept R.kind policy (places self.old) (list self.old) → Kept R.kind policy (places self.new) (list self.new) }
+        ensures kept { Kept R.kind policy (memory self.old) (list self.old) → Kept R.kind policy (memory self.new) (list self.new) }
         ensures lent { lent self.new ≡ lent self.old };
 
     // Makes another buffer hold what this one holds.
     fn copy_to(&self, other: &mut Self)
         ensures list { list other.new ≡ list self.now }
-        ensures places { places other.new ≡ places self.now }
+        ensures memory { memory other.new ≡ memory self.now }
         ensures lent { lent other.new ≡ lent other.old };
 
     // How many pairs wait.
     fn count(&self) -> usize
         ensures { result ≡ length (list self.now) };
+
+    // The changes in its memory, as they stand.
+    fn memory(&self) -> &[Change<R>]
+        ensures { result.now ≡ memory self.now };
 
     ghost lawful: { Lawful policy };
 }

@@ -4,11 +4,11 @@ ghost use Rattle.row.specs.Limits.{cell_limit, tap_limit};
 ghost use Rattle.row.specs.Records.{change_of};
 ghost use Rattle.row.specs.Rows.{row_at};
 ghost use Rattle.waiting.specs.Lists.{pair};
-ghost use Rattle.waiting.specs.Marks.{marks_in};
+ghost use Rattle.waiting.specs.Marks.{marks_of};
 ghost use Rattle.waiting.specs.Policies.{first};
 
 use crate::buffer::{Pair, Unfit, Waiting};
-use crate::rows::{clear_row, copy_changes, join_row};
+use crate::rows::{clear_row, copy_changes, join_row, row};
 use row::{
     CELL_LIMIT, Change, FIELD_LIMIT, Fault, Refusal, TAP_LIMIT, Tap, Value, all_same, blank,
 };
@@ -24,11 +24,10 @@ pub struct Marks<'a, R> {
 fn first_waiting<R: Value>(changes: &[Change<R>]) -> Option<usize>
     requires { length changes.now ≡ cell_limit }
     ensures inside { IfSome result (λ i. i < tap_limit) }
-    ensures first { MatchOption result (marks_in R.kind tap_limit 1 changes.now ≡ []) (λ i. first (marks_in R.kind tap_limit 1 changes.now) ≡ Ok (pair (i + 1) (map (change_of R.kind) (row_at i changes.now)))) }
+    ensures first { MatchOption result (marks_of R.kind changes.now ≡ []) (λ i. first (marks_of R.kind changes.now) ≡ Ok (pair (i + 1) (map (change_of R.kind) (row_at i changes.now)))) }
 {
     for i in 0..TAP_LIMIT {
-        let at = FIELD_LIMIT * i;
-        if !all_same(&changes[at..at + FIELD_LIMIT]) {
+        if !all_same(row(changes, i)) {
             return Some(i);
         }
     }
@@ -38,12 +37,11 @@ fn first_waiting<R: Value>(changes: &[Change<R>]) -> Option<usize>
 // How many taps wait.
 fn count_waiting<R: Value>(changes: &[Change<R>]) -> usize
     requires { length changes.now ≡ cell_limit }
-    ensures { result ≡ length (marks_in R.kind tap_limit 1 changes.now) }
+    ensures { result ≡ length (marks_of R.kind changes.now) }
 {
     let mut count = 0;
     for i in 0..TAP_LIMIT {
-        let at = FIELD_LIMIT * i;
-        if !all_same(&changes[at..at + FIELD_LIMIT]) {
+        if !all_same(row(changes, i)) {
             count += 1;
         }
     }
@@ -56,13 +54,17 @@ impl<'a, R: Value> Waiting<'a, R> for Marks<'a, R> {
 
     ghost policy = { marks };
 
-    ghost list = { λ m. marks_in R.kind tap_limit 1 m.changes.now };
+    ghost list = { λ m. marks_of R.kind m.changes.now };
 
-    ghost places = { λ m. m.changes.now };
+    ghost memory = { λ m. m.changes.now };
 
     ghost lent = { λ m. m.changes.ghost_name };
 
     ghost lawful = { marks-lawful };
+
+    fn places() -> usize {
+        CELL_LIMIT
+    }
 
     fn new(changes: &'a mut [Change<R>]) -> Result<Marks<'a, R>, Unfit<'a, R>> {
         if changes.len() != CELL_LIMIT {
@@ -87,8 +89,7 @@ impl<'a, R: Value> Waiting<'a, R> for Marks<'a, R> {
     fn look(&self) -> Result<Pair<'_, R>, Refusal> {
         let i = first_waiting(self.changes).ok_or(Fault::Nothing.at(0))?;
         let tap = Tap::try_from(i + 1)?;
-        let at = FIELD_LIMIT * i;
-        let delta = &self.changes[at..at + FIELD_LIMIT];
+        let delta = row(self.changes, i);
         Ok(Pair { tap, delta })
     }
 
@@ -109,5 +110,9 @@ impl<'a, R: Value> Waiting<'a, R> for Marks<'a, R> {
 
     fn count(&self) -> usize {
         count_waiting(self.changes)
+    }
+
+    fn memory(&self) -> &[Change<R>] {
+        self.changes
     }
 }

@@ -5,7 +5,7 @@ ghost use Rattle.row.specs.Taps.{is_tap};
 ghost use Rattle.waiting.specs.Limits.{pair_limit, queue_limit};
 
 use crate::buffer::{Pair, Unfit, Waiting};
-use crate::rows::{copy_changes, remove_row, store_row};
+use crate::rows::{copy_changes, remove_row, row, store_row};
 use row::{Change, FIELD_LIMIT, Fault, Refusal, Tap, Value, all_same, blank};
 
 // The pairs that may wait.
@@ -52,11 +52,15 @@ impl<'a, R: Value> Waiting<'a, R> for Queue<'a, R> {
 
     ghost list = { queued R.kind };
 
-    ghost places = { λ q. q.changes.now };
+    ghost memory = { λ q. q.changes.now };
 
     ghost lent = { λ q. q.changes.ghost_name };
 
     ghost lawful = { queue-lawful };
+
+    fn places() -> usize {
+        QUEUE_LIMIT
+    }
 
     fn new(changes: &'a mut [Change<R>]) -> Result<Queue<'a, R>, Unfit<'a, R>> {
         if changes.len() != QUEUE_LIMIT {
@@ -96,7 +100,7 @@ impl<'a, R: Value> Waiting<'a, R> for Queue<'a, R> {
             return Err(Fault::Nothing.at(0));
         }
         let tap = Tap::try_from(self.taps[0])?;
-        let delta = &self.changes[..FIELD_LIMIT];
+        let delta = row(self.changes, 0);
         Ok(Pair { tap, delta })
     }
 
@@ -127,5 +131,9 @@ impl<'a, R: Value> Waiting<'a, R> for Queue<'a, R> {
 
     fn count(&self) -> usize {
         self.len
+    }
+
+    fn memory(&self) -> &[Change<R>] {
+        self.changes
     }
 }

@@ -6,6 +6,16 @@ ghost use Rattle.row.specs.Rows.{over, row_at, same, with_row};
 
 use row::{Change, FIELD_LIMIT, Value, blank, canonicalize, join_delta};
 
+// One row.
+pub(crate) fn row<R: Copy>(changes: &[Change<R>], i: usize) -> &[Change<R>]
+    requires { field_limit * i + field_limit ≤ length changes.now }
+    ensures value { result.now ≡ row_at i changes.now }
+    ensures len { length result.now ≡ field_limit }
+{
+    let at = FIELD_LIMIT * i;
+    &changes[at..at + FIELD_LIMIT]
+}
+
 // Copies a delta into a row, each change by the record of its meaning.
 pub(crate) fn store_row<R: Value>(changes: &mut [Change<R>], i: usize, delta: &[Change<R>])
     requires inside { field_limit * i + field_limit ≤ length changes.old }

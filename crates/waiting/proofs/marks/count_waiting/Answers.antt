@@ -5,8 +5,8 @@ use Rattle.waiting.proofs.marks.count_waiting.Goals as goal
 
 pub loop-i-preserved : goal.loop-i-preserved
 loop-i-preserved g c =
-    let skip = marks_skip g.R.Value.kind c.loop-i.i c.args.changes.now c.all_same.result c.loop-i-test.true c.requires c.all_same.ensures in
-    let some = marks_some g.R.Value.kind c.loop-i.i c.args.changes.now c.all_same.result c.loop-i-test.true c.requires c.all_same.ensures in
+    let skip = marks_skip g.R.Value.kind c.loop-i.i c.args.changes.now c.all_same.result c.loop-i-test.true c.requires c.row.result.now c.row.ensures.value c.all_same.ensures in
+    let some = marks_some g.R.Value.kind c.loop-i.i c.args.changes.now c.all_same.result c.loop-i-test.true c.requires c.row.result.now c.row.ensures.value c.all_same.ensures in
     elim c.if-not-all_same.branch [
       | then-not-all_same w ↦ record {
         counted = omega (arith, w.count-is, ap length (some w.if-not-all_same.true), c.loop-i.invariant.counted);
