@@ -1,5 +1,5 @@
 // Plays scripts on a buffer of any kind.
-use crate::sample::{Sample, Text, check_delta, put};
+use crate::sample::{Sample, Spelling, check_delta, put};
 use row::{Change, FIELD_LIMIT, Fault, Refusal, Tap};
 use std::alloc::Global;
 use std::mem;
@@ -8,7 +8,7 @@ use std::test::*;
 use waiting::Waiting;
 
 // Pairs of a tap and a delta, in sending order.
-pub(crate) type List<'s> = &'s [(usize, Text<'s>)];
+pub(crate) type List<'s> = &'s [(usize, Spelling<'s>)];
 
 pub(crate) const TAKEN: Result<(), Refusal> = Ok(());
 
@@ -25,10 +25,10 @@ pub(crate) const NOTHING: Result<(), Refusal> = Err(Refusal {
 // What is done to a buffer, and what it has to answer. After each step it is looked at, and its pairs are counted.
 #[derive(Clone, Copy)]
 pub(crate) enum Act<'s> {
-    Put(usize, Text<'s>, Result<(), Refusal>),
+    Put(usize, Spelling<'s>, Result<(), Refusal>),
     // puts all of these, and each is taken
     PutAll(List<'s>),
-    // puts deltas of 11 and of 13 changes, and each is refused
+    // puts deltas of a change too few and of one too many, and each is refused
     PutUnfit(usize),
     Takes(usize, bool),
     DropFirst(Result<(), Refusal>),
@@ -53,29 +53,29 @@ pub(crate) type Script<'s> = &'s [(Act<'s>, Waits<'s>)];
 
 // How a kind lists and lays out what waits.
 #[derive(Clone, Copy)]
-pub(crate) enum Kind {
+pub(crate) enum Layout {
     Queue,
     Marks,
 }
 
-impl Kind {
+impl Layout {
     fn list<'s>(self, before: List<'s>, waits: Waits<'s>) -> List<'s> {
         match waits {
             Waits::Still => before,
             Waits::Empty => &[],
             Waits::Both(list) => list,
             Waits::Each(in_queue, in_marks) => match self {
-                Kind::Queue => in_queue,
-                Kind::Marks => in_marks,
+                Layout::Queue => in_queue,
+                Layout::Marks => in_marks,
             },
         }
     }
 
     // The delta in a row of a buffer's memory: the pair in that place, or that of the row's tap.
-    fn row<'s>(self, list: List<'s>, i: usize) -> Text<'s> {
+    fn row<'s>(self, list: List<'s>, i: usize) -> Spelling<'s> {
         let pair = match self {
-            Kind::Queue => list.get(i),
-            Kind::Marks => list.iter().find(|(tap, _)| *tap == i.saturating_add(1)),
+            Layout::Queue => list.get(i),
+            Layout::Marks => list.iter().find(|(tap, _)| *tap == i.saturating_add(1)),
         };
         pair.map_or(b"", |(_, text)| *text)
     }
@@ -97,15 +97,18 @@ fn check_first<'a, R: Sample, W: Waiting<'a, R>>(
     check_delta(rt, step, pair.delta, text)
 }
 
-// The buffer shows the first pair of the list; a copy of it shows and drops one after another, and then holds nothing.
+// The buffer shows the first pair of the list, and its memory holds all of them; a copy of it shows and drops one after another, and then
+// holds nothing.
 fn check_list<'a, R: Sample, W: Waiting<'a, R>>(
     rt: &impl Abort,
     step: usize,
     buffer: &W,
     spare: &mut W,
+    layout: Layout,
     list: List<'_>,
 ) -> Result<(), Fail> {
     assert_eq!(rt; buffer.count(), list.len(), "step {step}");
+    check_memory(rt, layout, buffer.memory(), list)?;
     check_first::<R, W>(rt, step, buffer, list)?;
     buffer.copy_to(spare);
     for i in 0..list.len() {
@@ -181,12 +184,12 @@ fn perform<'a, R: Sample, W: Waiting<'a, R>>(
 // Each row of a buffer's memory holds the delta of its pair, and same where it has none, each change by its own record.
 fn check_memory<R: Sample>(
     rt: &impl Abort,
-    kind: Kind,
+    layout: Layout,
     changes: &[Change<R>],
     list: List<'_>,
 ) -> Result<(), Fail> {
     for (i, row) in changes.chunks(FIELD_LIMIT).enumerate() {
-        check_delta(rt, i, row, kind.row(list, i))?;
+        check_delta(rt, i, row, layout.row(list, i))?;
     }
     Ok(())
 }
@@ -212,12 +215,12 @@ impl<R: Sample> Memory<R> {
     pub(crate) fn check(
         &self,
         rt: &impl Abort,
-        kind: Kind,
+        layout: Layout,
         lists: (List<'_>, List<'_>),
     ) -> Result<(), Fail> {
-        check_memory(rt, kind, &self.first, lists.0)?;
-        check_memory(rt, kind, &self.second, lists.1)?;
-        check_memory(rt, kind, &self.spare, &[])
+        check_memory(rt, layout, &self.first, lists.0)?;
+        check_memory(rt, layout, &self.second, lists.1)?;
+        check_memory(rt, layout, &self.spare, &[])
     }
 }
 
@@ -226,7 +229,7 @@ impl<R: Sample> Memory<R> {
 pub(crate) fn play<'a, 's, R: Sample, W: Waiting<'a, R>>(
     rt: &impl Abort,
     alloc: Global,
-    kind: Kind,
+    layout: Layout,
     memory: &'a mut Memory<R>,
     script: Script<'s>,
 ) -> Result<(List<'s>, List<'s>), Fail> {
@@ -241,8 +244,8 @@ pub(crate) fn play<'a, 's, R: Sample, W: Waiting<'a, R>>(
             Act::Turn => (lists.1, lists.0),
             _ => lists,
         };
-        lists = (kind.list(before, *waits), other);
-        check_list::<R, W>(rt, step, &first, &mut spare, lists.0)?;
+        lists = (layout.list(before, *waits), other);
+        check_list::<R, W>(rt, step, &first, &mut spare, layout, lists.0)?;
     }
     Ok(lists)
 }

@@ -8,7 +8,7 @@ use waiting::Waiting;
 // A delta: a character for each field from the first on, and the fields behind are same. `.` is same, `#` null, `$` the rest
 // value, `2` the value `01`, any other the value of that one character. In a delta that is put, `,` is also same and `!` null,
 // with the record of `1`, and `?` is a value by a record that is not sound: what is stored then is `.`, `#` and `$`.
-pub(crate) type Text<'s> = &'s [u8];
+pub(crate) type Spelling<'s> = &'s [u8];
 
 // A kind of value whose records are compared, and one of its records that is not sound.
 pub(crate) trait Sample: Value + PartialEq {
@@ -19,7 +19,7 @@ impl Sample for TextRecord {
     fn unsound() -> TextRecord {
         TextRecord {
             bytes: [b'1'; TEXT_LIMIT],
-            len: 31,
+            len: TEXT_LIMIT as u8 - 1,
         }
     }
 }
@@ -67,7 +67,7 @@ pub(crate) fn put<'a, R: Sample, W: Waiting<'a, R>>(
     alloc: Global,
     buffer: &mut W,
     tap: usize,
-    text: Text<'_>,
+    text: Spelling<'_>,
 ) -> Result<Result<(), Refusal>, Fail> {
     let mut delta = vec![in alloc; Change::same(); FIELD_LIMIT]?;
     for (change, field) in delta.iter_mut().zip(text) {
@@ -81,7 +81,7 @@ pub(crate) fn check_delta<R: Sample>(
     rt: &impl Abort,
     step: usize,
     changes: &[Change<R>],
-    text: Text<'_>,
+    text: Spelling<'_>,
 ) -> Result<(), Fail> {
     assert_eq!(rt; changes.len(), FIELD_LIMIT, "step {step}");
     for (i, change) in changes.iter().enumerate() {

@@ -1,14 +1,14 @@
 // Runs of each kind of buffer, with each kind of value.
 use crate::player::Act::{CopyOver, DropFirst, Forget, Put, PutAll, PutUnfit, Takes, Turn};
 use crate::player::Waits::{Both, Each, Empty, Still};
-use crate::player::{FULL, Kind, Memory, NOTHING, Script, TAKEN, play};
+use crate::player::{FULL, Layout, Memory, NOTHING, Script, TAKEN, play};
 use crate::sample::Sample;
 use crate::single::Single;
 use row::{CELL_LIMIT, Change, FIELD_LIMIT, LogicRecord, Mark, TextRecord};
 use std::alloc::Global;
 use std::process::Abort;
 use std::test::*;
-use waiting::{Marks, QUEUE_LIMIT, Queue, Waiting};
+use waiting::{Marks, PAIR_LIMIT, QUEUE_LIMIT, Queue, Waiting};
 
 // Plays a script on buffers of a kind, and looks at the memory that they leave.
 fn play_queue_of<R: Sample>(
@@ -17,8 +17,8 @@ fn play_queue_of<R: Sample>(
     script: Script<'_>,
 ) -> Result<(), Fail> {
     let mut memory = Memory::new(alloc, QUEUE_LIMIT)?;
-    let lists = play::<R, Queue<'_, R>>(rt, alloc, Kind::Queue, &mut memory, script)?;
-    memory.check(rt, Kind::Queue, lists)
+    let lists = play::<R, Queue<'_, R>>(rt, alloc, Layout::Queue, &mut memory, script)?;
+    memory.check(rt, Layout::Queue, lists)
 }
 
 fn play_queue(rt: &impl Abort, alloc: Global, script: Script<'_>) -> Result<(), Fail> {
@@ -32,8 +32,8 @@ fn play_marks_of<R: Sample>(
     script: Script<'_>,
 ) -> Result<(), Fail> {
     let mut memory = Memory::new(alloc, CELL_LIMIT)?;
-    let lists = play::<R, Marks<'_, R>>(rt, alloc, Kind::Marks, &mut memory, script)?;
-    memory.check(rt, Kind::Marks, lists)
+    let lists = play::<R, Marks<'_, R>>(rt, alloc, Layout::Marks, &mut memory, script)?;
+    memory.check(rt, Layout::Marks, lists)
 }
 
 fn play_marks(rt: &impl Abort, alloc: Global, script: Script<'_>) -> Result<(), Fail> {
@@ -48,8 +48,8 @@ fn play_single_of<R: Sample>(
     script: Script<'_>,
 ) -> Result<(), Fail> {
     let mut memory = Memory::new(alloc, FIELD_LIMIT)?;
-    let lists = play::<R, Single<'_, R>>(rt, alloc, Kind::Queue, &mut memory, script)?;
-    memory.check(rt, Kind::Queue, lists)
+    let lists = play::<R, Single<'_, R>>(rt, alloc, Layout::Queue, &mut memory, script)?;
+    memory.check(rt, Layout::Queue, lists)
 }
 
 fn play_single(rt: &impl Abort, alloc: Global, script: Script<'_>) -> Result<(), Fail> {
@@ -64,7 +64,15 @@ fn play_both(rt: &impl Abort, alloc: Global, script: Script<'_>) -> Result<(), F
 
 // Memory of each length that is not the kind's is refused, and left as it was.
 fn check_lengths<R: Sample>(rt: &impl Abort, alloc: Global) -> Result<(), Fail> {
-    for len in [0, 11, 13, 95, 97, 191, 193] {
+    for len in [
+        0,
+        FIELD_LIMIT - 1,
+        FIELD_LIMIT + 1,
+        CELL_LIMIT - 1,
+        CELL_LIMIT + 1,
+        QUEUE_LIMIT - 1,
+        QUEUE_LIMIT + 1,
+    ] {
         let mut changes = vec![in alloc; Change::<R>::null(); len]?;
         assert!(rt; Queue::new(&mut changes).is_err(), "{len} changes");
         assert!(rt; Marks::new(&mut changes).is_err(), "{len} changes");
@@ -77,10 +85,31 @@ fn check_lengths<R: Sample>(rt: &impl Abort, alloc: Global) -> Result<(), Fail> 
     Ok(())
 }
 
+// A buffer takes memory of its own kind's length alone.
+fn check_places<R: Sample>(rt: &impl Abort, alloc: Global) -> Result<(), Fail> {
+    for len in [FIELD_LIMIT, CELL_LIMIT, QUEUE_LIMIT] {
+        let mut changes = vec![in alloc; Change::<R>::null(); len]?;
+        assert_eq!(rt;
+            Queue::new(&mut changes).is_ok(),
+            len == Queue::<R>::places()
+        );
+        assert_eq!(rt;
+            Marks::new(&mut changes).is_ok(),
+            len == Marks::<R>::places()
+        );
+        assert_eq!(rt;
+            Single::new(&mut changes).is_ok(),
+            len == Single::<R>::places()
+        );
+    }
+    Ok(())
+}
+
 #[test]
 fn memory_of_other_lengths(rt: HostRuntime) -> Result<(), Fail> {
     check_lengths::<TextRecord>(&rt, rt.alloc())?;
-    check_lengths::<LogicRecord>(&rt, rt.alloc())
+    check_lengths::<LogicRecord>(&rt, rt.alloc())?;
+    check_places::<LogicRecord>(&rt, rt.alloc())
 }
 
 // To several taps, and to one again: joined in marks.
@@ -258,10 +287,10 @@ fn copies(rt: HostRuntime) -> Result<(), Fail> {
     )
 }
 
-// With 16 pairs, and a pair more when one is gone.
+// With as many pairs as it takes, and a pair more when one is gone.
 #[test]
 fn full_queue(rt: HostRuntime) -> Result<(), Fail> {
-    let pairs: [(usize, &[u8]); 17] = [
+    let pairs: [(usize, &[u8]); PAIR_LIMIT + 1] = [
         (1, b"0"),
         (2, b"1"),
         (3, b"x"),
@@ -284,14 +313,17 @@ fn full_queue(rt: HostRuntime) -> Result<(), Fail> {
         &rt,
         rt.alloc(),
         &[
-            (PutAll(&pairs[..15]), Both(&pairs[..15])),
+            (
+                PutAll(&pairs[..PAIR_LIMIT - 1]),
+                Both(&pairs[..PAIR_LIMIT - 1]),
+            ),
             (Takes(1, true), Still),
-            (Put(8, b"..1", TAKEN), Both(&pairs[..16])),
+            (Put(8, b"..1", TAKEN), Both(&pairs[..PAIR_LIMIT])),
             (Takes(1, false), Still),
             (Put(1, b"0", FULL), Still),
             (Put(1, b"", FULL), Still),
             (PutUnfit(1), Still),
-            (DropFirst(TAKEN), Both(&pairs[1..16])),
+            (DropFirst(TAKEN), Both(&pairs[1..PAIR_LIMIT])),
             (Takes(1, true), Still),
             (Put(1, b"#", TAKEN), Both(&pairs[1..])),
             (Put(3, b"0", FULL), Still),

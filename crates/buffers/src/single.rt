@@ -97,6 +97,7 @@ impl<'a, R: Value> Waiting<'a, R> for Single<'a, R> {
 
     fn look(&self) -> Result<Pair<'_, R>, Refusal> {
         let number = self.tap.ok_or(Fault::Nothing.at(0))?;
+        // never refused: the single's number is a tap's
         let tap = Tap::try_from(number)?;
         Ok(Pair {
             tap,

@@ -25,13 +25,14 @@ module _ {X : Type 0} (i : ℕ) (places : List X) where
       let back = drop (field_limit * i + field_limit) places in
       omega (arith, long, length-append front (row ++ back), length-append row back, length-take-le (field_limit * i) places (omega arith), length-drop (field_limit * i + field_limit) places)
 
+pub map-around : {X Y : Type 0} (f : X → Y) (i m : ℕ) (ys xs : List X) → map f (take i xs ++ (ys ++ drop m xs)) ≡ take i (map f xs) ++ (map f ys ++ drop m (map f xs))
+map-around f i m ys xs =
+    map-append f (take i xs) (ys ++ drop m xs)
+    ∙ ap (λ l. map f (take i xs) ++ l) (map-append f ys (drop m xs))
+    ∙ (λ j. sym (take-map f i xs) j ++ (map f ys ++ sym (drop-map f m xs) j))
+
 pub map-with_row : {X Y : Type 0} (f : X → Y) (i : ℕ) (row places : List X) → map f (with_row i row places) ≡ with_row i (map f row) (map f places)
-map-with_row f i row places =
-    let front = take (field_limit * i) places in
-    let back = drop (field_limit * i + field_limit) places in
-    map-append f front (row ++ back)
-    ∙ ap (λ l. map f front ++ l) (map-append f row back)
-    ∙ (λ j. sym (take-map f (field_limit * i) places) j ++ (map f row ++ sym (drop-map f (field_limit * i + field_limit) places) j))
+map-with_row f i = map-around f (field_limit * i) (field_limit * i + field_limit)
 
 module _ {R : Type 0} (k : Kind R) where
   pub canonical-row : (i : ℕ) (row cs : List (Change R)) → row ≡ row_at i cs → cs ≡ map (canonical k) cs → row ≡ map (canonical k) row

@@ -39,9 +39,6 @@ module _ (t i : ℕ) (l all : List Pair) (d : Pair) (f : Forgotten t i l all) (h
     rest = f.rest;
   }
 
-pub forgotten-none : (t : ℕ) (l : List Pair) → Forgotten t 0 l l
-forgotten-none t l = record { inside = omega arith; others = refl; rest = refl }
-
 pub forgotten-all : (t i : ℕ) (l all : List Pair) → Forgotten t i l all → length l ≤ i → l ≡ without t all
 forgotten-all t i l all f h =
     sym (without-none t l (ap (list_all (λ p. not (is_for t p))) (sym (take_all i l h)) ∙ f.others)) ∙ f.rest

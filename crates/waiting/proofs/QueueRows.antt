@@ -19,6 +19,7 @@ use Rattle.waiting.specs.ListsLaws.{waits, length-deltas}
 use Rattle.waiting.specs.Policies.{Kept, drop_answer}
 use Rattle.waiting.specs.QueueLaws.{queue-lawful}
 use Rattle.waiting.specs.Queues.{pairs_in, queue, queue_of}
+use Rattle.waiting.proofs.Canonical.{map-with_row}
 use Rattle.row.specs.Canonical.{canonical-map, means-canonical}
 
 module _ {X : Type 0} (xs : List X) where
@@ -122,12 +123,6 @@ module _ {R : Type 0} (k : Kind R) (law : Lawful k) where
       ∙ pairs-pushed k (take len taps) t row cs wide (omega (arith, long))
       ∙ ap (λ d. pairs_in k (take len taps) cs ++ pair t d ∷ []) (means-canonical k law delta)
 
-map-rows : {X Y : Type 0} (f : X → Y) (i m : ℕ) (ys xs : List X) → take i (map f xs) ++ (map f ys ++ drop m (map f xs)) ≡ map f (take i xs ++ (ys ++ drop m xs))
-map-rows f i m ys xs =
-    (λ j. take-map f i xs j ++ (map f ys ++ drop-map f m xs j))
-    ∙ ap (λ l. map f (take i xs) ++ l) (sym (map-append f ys (drop m xs)))
-    ∙ sym (map-append f (take i xs) (ys ++ drop m xs))
-
 map-ends : {X Y : Type 0} (f : X → Y) (i m : ℕ) (xs ys : List X) → take i (map f xs) ++ (drop m (map f xs) ++ map f ys) ≡ map f (take i xs ++ (drop m xs ++ ys))
 map-ends f i m xs ys =
     (λ j. take-map f i xs j ++ (drop-map f m xs j ++ map f ys))
@@ -202,7 +197,7 @@ module _ {R : Type 0} (k : Kind R) (cs : List (Change R)) (l : List Pair) (old :
       let at = field_limit * length l in
       record {
         listed = ap (λ m. queue.holds (l ++ m)) (sym (cond-false (all_same d) [] (pair t d ∷ []) some)) ∙ queue-lawful.put-held l t d (record { listed = old.listed; known = tap; whole = whole; taken = lt-ltb (length l) pair_limit room });
-        laid = ap (λ m. take at m ++ (map (held k) d ++ drop (at + field_limit) m)) old.laid ∙ map-rows (held k) at (at + field_limit) d (queue.layout l) ∙ ap (map (held k)) (lays-pushed pair_limit l waiting t d whole room);
+        laid = ap (λ m. take at m ++ (map (held k) d ++ drop (at + field_limit) m)) old.laid ∙ sym (map-with_row (held k) (length l) d (queue.layout l)) ∙ ap (map (held k)) (lays-pushed pair_limit l waiting t d whole room);
       }
 
 module _ {R : Type 0} (k : Kind R) where

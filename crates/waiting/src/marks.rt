@@ -26,6 +26,7 @@ fn first_waiting<R: Value>(changes: &[Change<R>]) -> Option<usize>
     ensures inside { IfSome result (λ i. i < tap_limit) }
     ensures first { MatchOption result (marks_of R.kind changes.now ≡ []) (λ i. first (marks_of R.kind changes.now) ≡ Ok (pair (i + 1) (map (change_of R.kind) (row_at i changes.now)))) }
 {
+    // kept: rows by their index, since what waits is said by it
     for i in 0..TAP_LIMIT {
         if !all_same(row(changes, i)) {
             return Some(i);
@@ -88,12 +89,14 @@ impl<'a, R: Value> Waiting<'a, R> for Marks<'a, R> {
 
     fn look(&self) -> Result<Pair<'_, R>, Refusal> {
         let i = first_waiting(self.changes).ok_or(Fault::Nothing.at(0))?;
+        // never refused: a row's place is a tap's
         let tap = Tap::try_from(i + 1)?;
         let delta = row(self.changes, i);
         Ok(Pair { tap, delta })
     }
 
     fn drop_first(&mut self) -> Result<(), Refusal> {
+        // kept: of `self.changes`, passed on first as `&`, the checker does not know the length afterwards
         let changes = &mut *self.changes;
         let i = first_waiting(changes).ok_or(Fault::Nothing.at(0))?;
         clear_row(changes, i);

@@ -69,6 +69,7 @@ impl<'a, R: Value> Waiting<'a, R> for Queue<'a, R> {
         blank(changes);
         Ok(Queue {
             changes,
+            // any tap's number
             taps: [1; PAIR_LIMIT],
             len: 0,
         })
@@ -99,6 +100,7 @@ impl<'a, R: Value> Waiting<'a, R> for Queue<'a, R> {
         if self.len == 0 {
             return Err(Fault::Nothing.at(0));
         }
+        // never refused: the queue's numbers are taps'
         let tap = Tap::try_from(self.taps[0])?;
         let delta = row(self.changes, 0);
         Ok(Pair { tap, delta })

@@ -16,11 +16,12 @@ loop-i-preserved-then-self-i g c =
     let before = c.loop-i.invariant in
     let long = length-taken k q.len q.taps q.changes.now (omega arith) in
     let here = tap-taken k q.len c.loop-i.i q.taps q.changes.now (pair 0 []) c.loop-i-test.true (omega arith) ∙ c.if-self-i.true ∙ c.number.ensures in
-    let gone = forgotten-removed t c.loop-i.i l _ (pair 0 []) before.0 (omega (arith, long)) here in (
-      subst (λ m. Forgotten t c.loop-i.i m all) (sym c.remove.ensures.list) gone,
-      λ old. c.remove.ensures.kept (before.1 old),
-      c.remove.ensures.lent ∙ before.2,
-    )
+    let gone = forgotten-removed t c.loop-i.i l _ (pair 0 []) before.gone (omega (arith, long)) here in
+    record {
+      gone = subst (λ m. Forgotten t c.loop-i.i m all) (sym c.remove.ensures.list) gone;
+      kept = λ old. c.remove.ensures.kept (before.kept old);
+      lent = c.remove.ensures.lent ∙ before.lent;
+    }
 
 pub loop-i-preserved : goal.loop-i-preserved
 loop-i-preserved g c =
@@ -29,14 +30,15 @@ loop-i-preserved g c =
     let l = queued k q in
     let before = c.loop-i.invariant in
     let long = length-taken k q.len q.taps q.changes.now (omega arith) in
-    let here = tap-taken k q.len c.loop-i.i q.taps q.changes.now (pair 0 []) c.loop-i-test.true (omega arith) in (
-      forgotten-passed c.args.tap.number c.loop-i.i l _ (pair 0 []) before.0 (omega (arith, long)) (λ e. c.if-self-i.false (sym here ∙ e ∙ sym c.number.ensures)),
-      before.1,
-      before.2,
-    )
+    let here = tap-taken k q.len c.loop-i.i q.taps q.changes.now (pair 0 []) c.loop-i-test.true (omega arith) in
+    record {
+      gone = forgotten-passed c.args.tap.number c.loop-i.i l _ (pair 0 []) before.gone (omega (arith, long)) (λ e. c.if-self-i.false (sym here ∙ e ∙ sym c.number.ensures));
+      kept = before.kept;
+      lent = before.lent;
+    }
 
 pub returns-clause-list : goal.returns-clause-list
 returns-clause-list g c =
     let q = c.loop-i.self in
     let long = length-taken g.R.Value.kind q.len q.taps q.changes.now (omega arith) in
-    forgotten-all c.args.tap.number c.loop-i.i _ _ c.loop-i.invariant.0 (omega (arith, long))
+    forgotten-all c.args.tap.number c.loop-i.i _ _ c.loop-i.invariant.gone (omega (arith, long))

@@ -9,7 +9,11 @@ invariant-loop-i g l =
     let k = g.R.Value.kind in
     let list = queued k l.self in
     let all = queued k l.initial.self in
-    Forgotten l.tap.number l.i list all × (Kept k queue l.initial.self.changes.now all → Kept k queue l.self.changes.now list) × (l.self.changes.ghost_name ≡ l.initial.self.changes.ghost_name)
+    record {
+      gone : Forgotten l.tap.number l.i list all;
+      kept : Kept k queue l.initial.self.changes.now all → Kept k queue l.self.changes.now list;
+      lent : l.self.changes.ghost_name ≡ l.initial.self.changes.ghost_name;
+    }
 
 abbrev pub decreases-loop-i : goal.decreases-loop-i
 decreases-loop-i g l = l.self.len - l.i
