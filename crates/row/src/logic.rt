@@ -119,6 +119,13 @@ impl Logic {
         Some(Logic { held })
     }
 
+    // The value that a record means: the one that it holds, or the rest value.
+    pub(crate) fn meant_by(held: LogicRecord) -> Logic
+        ensures { result.held ≡ (if logic_sound held then held else rest_record logic_kind) }
+    {
+        Logic::check(held).unwrap_or(Logic::rest())
+    }
+
     // Writes the text, with zeros behind it, and answers its length.
     pub(crate) fn write(&self, out: &mut [u8; TEXT_LIMIT]) -> usize
         ensures length { result ≡ length (logic_text self.now.held) }
@@ -149,11 +156,10 @@ impl Value for LogicRecord {
     }
 
     fn write(&self, out: &mut [u8; TEXT_LIMIT]) -> usize {
-        let value = Logic::check(*self).unwrap_or(Logic::rest());
-        value.write(out)
+        Logic::meant_by(*self).write(out)
     }
 
     fn canonical(&self) -> LogicRecord {
-        Logic::check(*self).unwrap_or(Logic::rest()).into()
+        Logic::meant_by(*self).into()
     }
 }

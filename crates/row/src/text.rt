@@ -79,6 +79,13 @@ impl Text {
         Some(Text { held })
     }
 
+    // The value that a record means: the one that it holds, or the rest value.
+    pub(crate) fn meant_by(held: TextRecord) -> Text
+        ensures { result.held ≡ (if text_sound held then held else rest_record text_kind) }
+    {
+        Text::check(held).unwrap_or(Text::rest())
+    }
+
     // Writes the text, with zeros behind it, and answers its length.
     pub(crate) fn write(&self, out: &mut [u8; TEXT_LIMIT]) -> usize
         ensures length { result ≡ length (text_of self.now.held) }

@@ -46,12 +46,11 @@ impl Value for TextRecord {
     }
 
     fn write(&self, out: &mut [u8; TEXT_LIMIT]) -> usize {
-        let value = Text::check(*self).unwrap_or(Text::rest());
-        value.write(out)
+        Text::meant_by(*self).write(out)
     }
 
     fn canonical(&self) -> TextRecord {
-        Text::check(*self).unwrap_or(Text::rest()).into()
+        Text::meant_by(*self).into()
     }
 }
 

@@ -2,6 +2,7 @@ use Rattle.std.proofs.Common.{◌<◌, ◌-◌, length, sym, ap, ◌∙◌, arit
 use Rattle.std.specs.List.{list_all, remove}
 use Rattle.std.proofs.lemmas.Slice.{put_mid-rotated}
 use Rattle.row.specs.Taps.{is_tap}
+use Rattle.waiting.specs.Limits.{pair_limit}
 use Rattle.waiting.specs.Policies.{Kept}
 use Rattle.waiting.specs.Queues.{queue, queued}
 use Rattle.waiting.proofs.QueueRows.{length-taken, queue-removed, list_all-moved, kept-removed}
@@ -10,13 +11,13 @@ use Rattle.waiting.proofs.queue.Queue.remove.Goals as goal
 pub invariant_of-self-clause-known : goal.invariant_of-self-clause-known
 invariant_of-self-clause-known g c =
     let q = c.args.self.now in
-    let turned = put_mid-rotated c.args.i (16 - c.args.i) q.taps c.rotate_left.new.self 0 (omega arith) (omega arith) c.rotate_left.ensures.after in
+    let turned = put_mid-rotated c.args.i (pair_limit - c.args.i) q.taps c.rotate_left.new.self 0 (omega arith) (omega arith) c.rotate_left.ensures.after in
     ap (list_all is_tap) turned ∙ list_all-moved is_tap q.taps c.args.i 0 (omega arith) q.known
 
 pub returns-clause-list : goal.returns-clause-list
 returns-clause-list g c =
     let q = c.args.self.now in
-    let turned = put_mid-rotated c.args.i (16 - c.args.i) q.taps c.rotate_left.new.self 0 (omega arith) (omega arith) c.rotate_left.ensures.after in
+    let turned = put_mid-rotated c.args.i (pair_limit - c.args.i) q.taps c.rotate_left.new.self 0 (omega arith) (omega arith) c.rotate_left.ensures.after in
     queue-removed g.R.Value.kind q.len c.args.i _ q.taps _ q.changes.now _ _ c.requires (omega arith) (omega arith) turned c.remove_row.ensures
 
 pub returns-clause-kept : goal.returns-clause-kept
