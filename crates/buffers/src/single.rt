@@ -6,6 +6,7 @@ ghost use Rattle.row.specs.Limits.{field_limit};
 ghost use Rattle.row.specs.Records.{canonical, held};
 ghost use Rattle.row.specs.Rows.{same};
 ghost use Rattle.row.specs.Taps.{is_tap};
+ghost use Rattle.waiting.specs.Rows.{rows_wait};
 
 use row::{Change, FIELD_LIMIT, Fault, Refusal, Tap, Value, all_same, blank, canonicalize};
 use waiting::{Pair, Unfit, Waiting};
@@ -13,11 +14,12 @@ use waiting::{Pair, Unfit, Waiting};
 // The number of the tap whose delta waits, if one does, and the delta: all same where none waits.
 // kept: a number and no `Tap`, as in `Queue`
 #[derive(Drop)]
-pub struct Single<'a, R> {
+pub struct Single<'a, R: Value> {
     changes: &'a mut [Change<R>],
     tap: Option<usize>,
     ghost whole: { length changes.now ≡ field_limit },
     ghost known: { list_all is_tap (option_to_list tap) ≡ true },
+    ghost busy: { rows_wait R.kind (length (option_to_list tap)) changes.now ≡ true },
 }
 
 // Copies changes, each by the record of its meaning.
@@ -52,7 +54,7 @@ impl<R: Value> Single<'_, R> {
 
 impl<'a, R: Value> Waiting<'a, R> for Single<'a, R> {
     ghost use Rattle.waiting.specs.Queues.{queue_of, pairs_in};
-    ghost use Rattle.buffers.specs.Singles.{single-lawful};
+    ghost use Rattle.buffers.specs.Singles.{single-lawful, single-held};
 
     ghost policy = { queue_of 1 };
 
@@ -63,6 +65,8 @@ impl<'a, R: Value> Waiting<'a, R> for Single<'a, R> {
     ghost lent = { λ s. s.changes.ghost_name };
 
     ghost lawful = { single-lawful };
+
+    ghost held = { λ s. single-held R.kind s.tap s.changes.now s.whole s.known s.busy };
 
     fn places() -> usize {
         FIELD_LIMIT
@@ -90,8 +94,8 @@ impl<'a, R: Value> Waiting<'a, R> for Single<'a, R> {
         if all_same(delta) {
             return Ok(());
         }
-        self.tap = Some(tap.number());
         store(self.changes, delta);
+        self.tap = Some(tap.number());
         Ok(())
     }
 
@@ -120,8 +124,10 @@ impl<'a, R: Value> Waiting<'a, R> for Single<'a, R> {
     }
 
     fn copy_to(&self, other: &mut Single<'a, R>) {
-        other.tap = self.tap;
+        // nothing waits in it while the changes change
+        other.tap = None;
         copy_changes(self.changes, other.changes);
+        other.tap = self.tap;
     }
 
     fn count(&self) -> usize {

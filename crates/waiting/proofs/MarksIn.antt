@@ -2,9 +2,9 @@
 use Rattle.std.proofs.Common.{◌≡◌, ℕ, zero, suc, ◌+◌, ◌-◌, ◌*◌, ◌<◌, ◌≤◌, Bool, true, false, not, List, [], ◌∷◌, ◌++◌, map, length, take, drop, replicate, cond, Ok, Err, subst, sym, refl, ap, ◌∙◌, append_assoc, arith}
 use Rattle.std.specs.Prelude.{flat_map, nat_lt, nat_le, ◌==◌, ◌&&◌}
 use Rattle.std.specs.List.{list_all, range_with_len}
-use Rattle.std.proofs.lemmas.Bool.{and_from, and_parts, cond-true, cond-false, eq-eqb, lt-ltb, le-ltb, le-leb, leb-true, ltb-true}
+use Rattle.std.proofs.lemmas.Bool.{and_from, and_parts, cond-true, cond-false, eq-eqb, lt-ltb, le-ltb, leb-true, ltb-true}
 use Rattle.std.proofs.Math.Nat.{add-zero}
-use Rattle.std.proofs.lemmas.List.{append-nil, length-drop, length-map, length-take-le, map-append, nil_from_length, take-append-drop, take-append-le, drop-append-le, take_at, drop_at, drop-drop}
+use Rattle.std.proofs.lemmas.List.{append-nil, length-map, length-take-le, map-append, nil_from_length, take-append-drop, take-append-le, drop-append-le, take_at, drop_at, drop-drop}
 use Rattle.row.specs.Canonical.{canonical-map, canonical-canonical}
 use Rattle.row.specs.Faults.{refusal}
 use Rattle.row.specs.declared.fault.Fault.TheVariants.{Absent}
@@ -15,10 +15,10 @@ use Rattle.row.specs.Rows as rows
 use Rattle.row.specs.Rows.{same, over, join, all_same, row_at, with_row}
 use Rattle.row.specs.Taps.{is_tap, tap_numbered}
 use Rattle.row.specs.declared.change.Change.{Change}
-use Rattle.waiting.specs.Lists.{Pair, pair, is_for, may_wait, joined, without, pair_of_changes}
-use Rattle.waiting.specs.ListsLaws.{length-over, filter_keep, filter_skip, join-onto, join-changing, blank-from, joined-other, may_wait-from, pair_cases, flat_map-range}
+use Rattle.waiting.specs.Lists.{Pair, pair, is_for, joined, without, pair_of_changes}
+use Rattle.waiting.specs.ListsLaws.{length-over, filter_keep, filter_skip, join-onto, join-changing, blank-from, joined-other, pair_cases, flat_map-range}
 use Rattle.waiting.specs.Marks.{rising, marked, marks, marks_in, marks_of}
-use Rattle.waiting.specs.MarksLaws.{joined-above, joined-own, not_for, others_above, rising-cons, rising-less, rising-parts}
+use Rattle.waiting.specs.MarksLaws.{joined-above, joined-own, not_for, others_above, rising-less, rising-parts, marks-rising, length-rest, length-first}
 use Rattle.waiting.specs.Policies.{Kept, first, put_list}
 use Rattle.waiting.proofs.Canonical.{with_row-own, length-row_at, length-with_row, canonical-with_row, joined-means}
 
@@ -89,34 +89,11 @@ module _ {R : Type 0} (k : Kind R) where
   abbrev means : List (Change R) → List rows.Change
   means cs = map (change_of k) cs
 
-  marks-rising : (n m t : ℕ) (cs : List (Change R)) → m < t → rising m (marks_in k n t cs) ≡ true
-  marks-rising zero m t cs h = refl
-  marks-rising (suc n) m t cs h =
-      let x = means (take field_limit cs) in
-      let rest = marks_in k n (t + 1) (drop field_limit cs) in
-      pair_cases t x rest (λ l. rising m l ≡ true) (λ _. marks-rising n m (t + 1) _ (omega arith))
-      (λ _. rising-cons m (pair t x) rest h (marks-rising n t (t + 1) _ (omega arith)))
-
   marks-below : (n t u : ℕ) (cs : List (Change R)) → t + n ≤ u → below u (marks_in k n t cs) ≡ true
   marks-below zero t u cs h = refl
   marks-below (suc n) t u cs h =
       let rest = marks-below n (t + 1) u (drop field_limit cs) (omega arith) in
       pair_cases t (means (take field_limit cs)) _ (λ l. below u l ≡ true) (λ _. rest) (λ _. and_from _ _ (lt-ltb t u (omega arith)) rest)
-
-  -- the rows behind the first
-  length-rest : (n : ℕ) (cs : List (Change R)) → length cs ≡ field_limit * suc n → length (drop field_limit cs) ≡ field_limit * n
-  length-rest n cs h = length-drop field_limit cs ∙ omega arith
-
-  length-first : (n : ℕ) (cs : List (Change R)) → length cs ≡ field_limit * suc n → length (means (take field_limit cs)) ≡ field_limit
-  length-first n cs h = length-map (take field_limit cs) (change_of k) ∙ length-take-le field_limit cs (omega arith)
-
-  marks-wait : (n t : ℕ) (cs : List (Change R)) → 1 ≤ t → t + n ≤ tap_limit + 1 → length cs ≡ field_limit * n → list_all may_wait (marks_in k n t cs) ≡ true
-  marks-wait zero t cs low high long = refl
-  marks-wait (suc n) t cs low high long =
-      let x = means (take field_limit cs) in
-      let rest = marks-wait n (t + 1) (drop field_limit cs) (omega arith) (omega arith) (length-rest n cs long) in
-      pair_cases t x _ (λ l. list_all may_wait l ≡ true) (λ _. rest)
-      (λ e. and_from _ _ (may_wait-from t x (and_from _ _ (le-leb 1 t low) (le-leb t tap_limit (omega arith))) (length-first n cs long) e) rest)
 
   marks-layout : (n t : ℕ) (cs : List (Change R)) → length cs ≡ field_limit * n → flat_map (λ u. joined u (marks_in k n t cs)) (range_with_len t n) ≡ means cs
   marks-layout zero t cs long = ap means (sym (nil_from_length cs (omega arith)))
@@ -124,13 +101,13 @@ module _ {R : Type 0} (k : Kind R) where
       let x = means (take field_limit cs) in
       let rest = marks_in k n (t + 1) (drop field_limit cs) in
       let l = pair_of_changes t x ++ rest in
-      let above : rising t rest ≡ true = marks-rising n t (t + 1) _ (omega arith) in
+      let above : rising t rest ≡ true = marks-rising k n t (t + 1) _ (omega arith) in
       let here : joined t l ≡ x =
-      pair_cases t x rest (λ y. joined t y ≡ x) (λ e. joined-above t t rest (omega arith) above ∙ blank-from x (length-first n cs long) e)
-      (λ _. joined-own t x rest (length-first n cs long) above) in
+      pair_cases t x rest (λ y. joined t y ≡ x) (λ e. joined-above t t rest (omega arith) above ∙ blank-from x (length-first k n cs long) e)
+      (λ _. joined-own t x rest (length-first k n cs long) above) in
       let others : (u : ℕ) → t + 1 ≤ u → joined u l ≡ joined u rest =
       λ u h. pair_cases t x rest (λ y. joined u y ≡ joined u rest) (λ _. refl) (λ _. joined-other u (pair t x) rest (not_for u (pair t x) (λ q. absurd (omega arith)))) in
-      (λ i. here i ++ (flat_map-range (λ u. joined u l) (λ u. joined u rest) (t + 1) n others ∙ marks-layout n (t + 1) (drop field_limit cs) (length-rest n cs long)) i)
+      (λ i. here i ++ (flat_map-range (λ u. joined u l) (λ u. joined u rest) (t + 1) n others ∙ marks-layout n (t + 1) (drop field_limit cs) (length-rest k n cs long)) i)
       ∙ sym (map-append (change_of k) (take field_limit cs) (drop field_limit cs))
       ∙ ap means (take-append-drop field_limit cs)
 
@@ -146,7 +123,7 @@ module _ {R : Type 0} (k : Kind R) where
       let rest = drop field_limit front in
       ap (λ j. marks_in k j t (front ++ back)) same
       ∙ (λ j. pair_of_changes t (means (take-append-le field_limit front back (omega arith) j)) ++ marks_in k (i + m) (t + 1) (drop-append-le field_limit front back (omega arith) j))
-      ∙ ap (λ l. pair_of_changes t (means (take field_limit front)) ++ l) (marks-append i m (i + m) (t + 1) rest back refl (length-rest i front long) ∙ ap (λ u. marks_in k i (t + 1) rest ++ marks_in k m u back) next)
+      ∙ ap (λ l. pair_of_changes t (means (take field_limit front)) ++ l) (marks-append i m (i + m) (t + 1) rest back refl (length-rest k i front long) ∙ ap (λ u. marks_in k i (t + 1) rest ++ marks_in k m u back) next)
       ∙ sym (append_assoc (pair_of_changes t (means (take field_limit front))) (marks_in k i (t + 1) rest) (marks_in k m (t + suc i) back))
 
   module _ (n t i : ℕ) (cs : List (Change R)) (inside : i < n) (long : length cs ≡ field_limit * n) where
@@ -160,7 +137,7 @@ module _ {R : Type 0} (k : Kind R) where
     front-below = marks-below i t (t + i) (take (field_limit * i) cs) (omega arith)
 
     back-rising : rising (t + i) back ≡ true
-    back-rising = marks-rising (n - (i + 1)) (t + i) (t + i + 1) (drop (field_limit * i + field_limit) cs) (omega arith)
+    back-rising = marks-rising k (n - (i + 1)) (t + i) (t + i + 1) (drop (field_limit * i + field_limit) cs) (omega arith)
 
     -- what waits before a row, for it and behind it
     marks-split : (row : List (Change R)) → length row ≡ field_limit → marks_in k n t (with_row i row cs) ≡ front ++ (pair_of_changes (t + i) (means row) ++ back)
@@ -228,13 +205,10 @@ module _ {R : Type 0} (k : Kind R) where
 
   -- the kind keeps the records of what each change means, and no more is asked
   marks-kept : (cs : List (Change R)) → length cs ≡ cell_limit → cs ≡ map (canonical k) cs → Kept k marks cs (marks_of k cs)
-  marks-kept cs long e = record {
-    listed = and_from _ _ (marks-rising tap_limit 0 1 cs (omega arith)) (marks-wait tap_limit 1 cs (omega arith) (omega arith) long);
-    laid = e ∙ canonical-map k cs ∙ ap (map (held k)) (sym (marks-layout tap_limit 1 cs long));
-  }
+  marks-kept cs long e = e ∙ canonical-map k cs ∙ ap (map (held k)) (sym (marks-layout tap_limit 1 cs long))
 
   pub kept-canonical : (cs : List (Change R)) → length cs ≡ cell_limit → Kept k marks cs (marks_of k cs) → cs ≡ map (canonical k) cs
-  kept-canonical cs long h = h.laid ∙ ap (map (held k)) (marks-layout tap_limit 1 cs long) ∙ sym (canonical-map k cs)
+  kept-canonical cs long h = h ∙ ap (map (held k)) (marks-layout tap_limit 1 cs long) ∙ sym (canonical-map k cs)
 
   -- the pair that is shown
   pub shown : (cs : List (Change R)) (i t : ℕ) (l : List Pair) → Ok t ≡ tap_numbered (i + 1) → first l ≡ Ok (pair (i + 1) (means (row_at i cs))) → (row : List (Change R)) → row ≡ row_at i cs → Ok (pair t (means row)) ≡ first l
@@ -266,7 +240,7 @@ module _ {R : Type 0} (k : Kind R) where
       pub cleared-first : first (marks_of k cs) ≡ Ok (pair (i + 1) (means (row_at i cs))) → marks_of k new ≡ drop 1 (marks_of k cs)
       cleared-first f =
           cleared (i + 1) (omega arith)
-          ∙ first-removed 0 (i + 1) (means (row_at i cs)) (marks_of k cs) (marks-rising tap_limit 0 1 cs (omega arith)) f
+          ∙ first-removed 0 (i + 1) (means (row_at i cs)) (marks_of k cs) (marks-rising k tap_limit 0 1 cs (omega arith)) f
 
     -- after `join_row`
     module _ (law : Lawful k) (delta : List (Change R)) (whole : length delta ≡ field_limit) (put : new ≡ with_row i (map (canonical k) (over later (row_at i cs) delta)) cs) where

@@ -1,9 +1,9 @@
 -- The pairs of a queue, by the rows of its memory.
-use Rattle.std.proofs.Common.{◌≡◌, ℕ, zero, suc, ◌+◌, ◌-◌, ◌*◌, ◌<◌, ◌≤◌, Bool, true, false, nat_le, get_or, set, slice_set, List, [], ◌∷◌, ◌++◌, map, length, take, drop, replicate, Ok, sym, refl, ap, ◌∙◌, take-add, arith, append_assoc, not-suc-le-zero}
+use Rattle.std.proofs.Common.{◌≡◌, ℕ, zero, suc, ◌+◌, ◌-◌, ◌*◌, ◌<◌, ◌≤◌, Bool, true, false, not, ◌&&◌, nat_le, get_or, set, slice_set, List, [], ◌∷◌, ◌++◌, map, length, take, drop, replicate, Ok, sym, refl, ap, ◌∙◌, take-add, arith, append_assoc, not-suc-le-zero}
 use Rattle.std.specs.List.{list_all, remove}
-use Rattle.std.proofs.lemmas.Bool.{and_parts, and_from, leb-true, le-leb, lt-ltb, cond-false}
+use Rattle.std.proofs.lemmas.Bool.{and_parts, and_from, leb-true}
 use Rattle.std.proofs.lemmas.List.Folds.{list_all-append}
-use Rattle.std.proofs.lemmas.List.{length-append, length-drop, length-take-le, map-append, replicate-append-replicate, take_at, drop_at, drop-drop, take-append-le, drop-append-le, drop-replicate, take-map, drop-map, append-nil, take-append-drop, drop_more, length-map, take_more_set, get_or-take}
+use Rattle.std.proofs.lemmas.List.{length-append, length-drop, length-take-le, map-append, replicate-append-replicate, length-replicate, take-replicate, take_at, drop_at, drop-drop, take-append-le, drop-append-le, drop-replicate, take-map, drop-map, append-nil, take-append-drop, drop_more, length-map, take_more_set, get_or-take}
 use Rattle.std.proofs.lemmas.Grind.{flat_map-append}
 use Rattle.std.proofs.lemmas.List.Edits.{length-remove}
 use Rattle.row.specs.Kinds.{Kind, Lawful}
@@ -11,14 +11,13 @@ use Rattle.row.specs.Limits.{field_limit}
 use Rattle.row.specs.Records.{canonical, change_of, held}
 use Rattle.row.specs.Rows as rows
 use Rattle.row.specs.Rows.{becomes, value, same, all_same, with_row}
-use Rattle.row.specs.Taps.{is_tap}
 use Rattle.row.specs.declared.change.Change.{Change}
 use Rattle.waiting.specs.Limits.{pair_limit}
 use Rattle.waiting.specs.Lists.{Pair, pair, may_wait, deltas}
 use Rattle.waiting.specs.ListsLaws.{waits, length-deltas}
 use Rattle.waiting.specs.Policies.{Kept, drop_answer}
-use Rattle.waiting.specs.QueueLaws.{queue-lawful}
 use Rattle.waiting.specs.Queues.{pairs_in, queue, queue_of}
+use Rattle.waiting.specs.Rows.{rows_wait}
 use Rattle.waiting.proofs.Canonical.{map-with_row}
 use Rattle.row.specs.Canonical.{canonical-map, means-canonical}
 
@@ -177,30 +176,52 @@ list_all-moved p xs i d h e =
     list_all-append p (remove xs i) (get_or xs i d ∷ [])
     ∙ and_from _ _ (list_all-removed p xs i e) (and_from _ _ (and_parts _ _ (sym (ap (list_all p) (drop_more xs i d h)) ∙ (list_all-parts p i xs e).1)).0 refl)
 
-module _ {R : Type 0} (k : Kind R) (cs : List (Change R)) (l : List Pair) (old : Kept k queue cs l) where
-  few : length l ≤ pair_limit
-  few = leb-true (length l) pair_limit (and_parts _ _ old.listed).0
-
-  waiting : list_all may_wait l ≡ true
-  waiting = (and_parts (nat_le (length l) pair_limit) _ old.listed).1
-
+module _ {R : Type 0} (k : Kind R) (cs : List (Change R)) (l : List Pair) (listed : queue.holds l ≡ true) (old : Kept k queue cs l) where
   pub kept-removed : (i : ℕ) → i < length l → Kept k queue (take (field_limit * i) cs ++ (drop (field_limit * i + field_limit) cs ++ replicate field_limit (held k same))) (remove l i)
   kept-removed i h =
       let at = field_limit * i in
-      record {
-        listed = and_from _ _ (le-leb (length (remove l i)) pair_limit (omega (arith, few, length-remove l i h))) (list_all-removed may_wait l i waiting);
-        laid = ap (λ m. take at m ++ (drop (at + field_limit) m ++ map (held k) (replicate field_limit same))) old.laid ∙ map-ends (held k) at (at + field_limit) (queue.layout l) (replicate field_limit same) ∙ ap (map (held k)) (lays-removed pair_limit l waiting i h few);
-      }
+      let parts = and_parts (nat_le (length l) pair_limit) _ listed in
+      ap (λ m. take at m ++ (drop (at + field_limit) m ++ map (held k) (replicate field_limit same))) old
+      ∙ map-ends (held k) at (at + field_limit) (queue.layout l) (replicate field_limit same)
+      ∙ ap (map (held k)) (lays-removed pair_limit l parts.1 i h (leb-true (length l) pair_limit parts.0))
 
-  pub kept-pushed : (t : ℕ) (d : List rows.Change) → length l < pair_limit → is_tap t ≡ true → length d ≡ field_limit → all_same d ≡ false → Kept k queue (with_row (length l) (map (held k) d) cs) (l ++ pair t d ∷ [])
-  kept-pushed t d room tap whole some =
-      let at = field_limit * length l in
-      record {
-        listed = ap (λ m. queue.holds (l ++ m)) (sym (cond-false (all_same d) [] (pair t d ∷ []) some)) ∙ queue-lawful.put-held l t d (record { listed = old.listed; known = tap; whole = whole; taken = lt-ltb (length l) pair_limit room });
-        laid = ap (λ m. take at m ++ (map (held k) d ++ drop (at + field_limit) m)) old.laid ∙ sym (map-with_row (held k) (length l) d (queue.layout l)) ∙ ap (map (held k)) (lays-pushed pair_limit l waiting t d whole room);
-      }
+  pub kept-pushed : (t : ℕ) (d : List rows.Change) → length l < pair_limit → length d ≡ field_limit → Kept k queue (with_row (length l) (map (held k) d) cs) (l ++ pair t d ∷ [])
+  kept-pushed t d room whole =
+      ap (λ m. with_row (length l) (map (held k) d) m) old
+      ∙ sym (map-with_row (held k) (length l) d (queue.layout l))
+      ∙ ap (map (held k)) (lays-pushed pair_limit l (and_parts (nat_le (length l) pair_limit) _ listed).1 t d whole room)
 
 module _ {R : Type 0} (k : Kind R) where
+  -- rows that wait are pairs that wait, of whatever taps
+  rows-are : (n : ℕ) (cs : List (Change R)) → rows_wait k n cs ≡ list_all (λ p. not (all_same p.delta)) (pairs_in k (replicate n 0) cs)
+  rows-are zero cs = refl
+  rows-are (suc n) cs = ap (λ b. not (all_same (map (change_of k) (take field_limit cs))) && b) (rows-are n (drop field_limit cs))
+
+  pub rows-pushed : (n : ℕ) (row cs : List (Change R)) → length row ≡ field_limit → field_limit * n + field_limit ≤ length cs → rows_wait k n cs ≡ true → all_same (map (change_of k) row) ≡ false → rows_wait k (n + 1) (with_row n row cs) ≡ true
+  rows-pushed n row cs whole inside before some =
+      let zeros : List ℕ = replicate n 0 in
+      let long : length zeros ≡ n = length-replicate n 0 in
+      rows-are (n + 1) (with_row n row cs)
+      ∙ ap (λ ts. list_all (λ p. not (all_same p.delta)) (pairs_in k ts (with_row n row cs))) (sym (replicate-append-replicate n 1 0))
+      ∙ ap (λ m. list_all (λ p. not (all_same p.delta)) (pairs_in k (zeros ++ 0 ∷ []) (with_row m row cs))) (sym long)
+      ∙ ap (list_all (λ p. not (all_same p.delta))) (pairs-pushed k zeros 0 row cs whole (omega (arith, long)))
+      ∙ list_all-append (λ p. not (all_same p.delta)) (pairs_in k zeros cs) (pair 0 (map (change_of k) row) ∷ [])
+      ∙ and_from _ _ (sym (rows-are n cs) ∙ before) (and_from _ _ (ap not some) refl)
+
+  pub rows-removed : (n i : ℕ) (cs more : List (Change R)) → i < n → field_limit * n ≤ length cs → rows_wait k n cs ≡ true → rows_wait k (n - 1) (take (field_limit * i) cs ++ (drop (field_limit * i + field_limit) cs ++ more)) ≡ true
+  rows-removed n i cs more h inside before =
+      let zeros : List ℕ = replicate n 0 in
+      let long : length zeros ≡ n = length-replicate n 0 in
+      let one : n - 1 ≡ i + (n - suc i) = omega arith in
+      let fewer : replicate (n - 1) 0 ≡ remove zeros i =
+      ap (λ m. replicate m 0) one
+      ∙ sym (replicate-append-replicate i (n - suc i) 0)
+      ∙ (λ j. sym (take-replicate i n 0 (omega arith)) j ++ sym (drop-replicate (suc i) n 0) j) in
+      rows-are (n - 1) _
+      ∙ ap (λ ts. list_all (λ p. not (all_same p.delta)) (pairs_in k ts (take (field_limit * i) cs ++ (drop (field_limit * i + field_limit) cs ++ more)))) fewer
+      ∙ ap (list_all (λ p. not (all_same p.delta))) (pairs-removed k zeros i cs more (omega (arith, long)) (omega (arith, long)))
+      ∙ list_all-removed (λ p. not (all_same p.delta)) (pairs_in k zeros cs) i (sym (rows-are n cs) ∙ before)
+
   -- a queue that is not empty shows its first row
   pub shows-first : (ts : List ℕ) (cs : List (Change R)) → 1 ≤ length ts → field_limit ≤ length cs → Kept k queue cs (pairs_in k ts cs) → take field_limit cs ≡ map (canonical k) (take field_limit cs)
   shows-first [] cs some inside old = absurd (not-suc-le-zero some)
@@ -210,7 +231,7 @@ module _ {R : Type 0} (k : Kind R) where
       let wide : length d ≡ field_limit = length-map row (change_of k) ∙ length-take-le field_limit cs inside in
       let l = pairs_in k (t ∷ ts) cs in
       let layout = append_assoc d (deltas (pairs_in k ts (drop field_limit cs))) (replicate (field_limit * (pair_limit - length l)) same) in
-      ap (take field_limit) old.laid
+      ap (take field_limit) old
       ∙ take-map (held k) field_limit (queue.layout l)
       ∙ ap (λ ds. map (held k) (take field_limit ds)) layout
       ∙ ap (map (held k)) (take_at d _ field_limit wide)

@@ -1,5 +1,6 @@
 pub mod Limits
 pub mod Lists
+pub mod Rows
 pub mod ListsLaws
 pub mod Policies
 pub mod Pairs

@@ -1,17 +1,20 @@
 -- The laws of marks.
-use Rattle.std.specs.Prelude.{◌≡◌, ◌≢◌, ℕ, zero, suc, ◌+◌, ◌*◌, ◌<◌, ◌≤◌, Bool, true, false, not, cond, List, [], ◌∷◌, ◌++◌, map, length, fold, filter, flat_map, sum_by, nat_lt, nat_le}
+use Rattle.std.specs.Prelude.{◌≡◌, ◌≢◌, ℕ, zero, suc, ◌+◌, ◌*◌, ◌<◌, ◌≤◌, Bool, true, false, not, cond, List, [], ◌∷◌, ◌++◌, map, length, take, drop, fold, filter, flat_map, sum_by, nat_lt, nat_le}
 use Rattle.std.proofs.Common.{sym, refl, ap, ◌∙◌, ⊎_elim, arith}
 use Rattle.std.proofs.Math.Nat.{zero-add}
 use Rattle.std.specs.List.{list_all, range_with_len}
-use Rattle.std.proofs.lemmas.Bool.{and_from, and_parts, cases_order, cond_both, cond-true, eq-eqb, eqb-true, eqb-false, ne_eqb, lt-ltb, ltb-true, ltb-false, leb-true}
-use Rattle.std.proofs.lemmas.List.{append-nil, length-append}
+use Rattle.std.proofs.lemmas.Bool.{and_from, and_parts, cases_order, cond_both, cond-true, eq-eqb, eqb-true, eqb-false, ne_eqb, lt-ltb, ltb-true, ltb-false, leb-true, le-leb}
+use Rattle.std.proofs.lemmas.List.{append-nil, length-append, length-drop, length-map, length-take-le}
 use Rattle.std.proofs.lemmas.List.Sums.{sum_by-cons}
-use Rattle.row.specs.Limits.{field_limit, tap_limit}
+use Rattle.row.specs.Kinds.{Kind}
+use Rattle.row.specs.Limits.{field_limit, tap_limit, cell_limit}
+use Rattle.row.specs.Records.{change_of}
+use Rattle.row.specs.declared.change.Change as records
 use Rattle.row.specs.Rows.{Change, join, blank, all_same}
 use Rattle.row.specs.Taps.{is_tap}
 use Rattle.waiting.specs.Lists.{Pair, pair, is_for, may_wait, joined, without, changing, pair_of_changes}
 use Rattle.waiting.specs.ListsLaws.{length-join, length-joined, join-same, join-blank, join-changing, filter_keep, filter_skip, list_all-filter, pair_cases, joined-cons, joined-other, waits, may_wait-from, changing-append, flat_map-range}
-use Rattle.waiting.specs.Marks.{rising, marked, marks}
+use Rattle.waiting.specs.Marks.{rising, marked, marks, marks_in, marks_of}
 use Rattle.waiting.specs.Policies.{Lawful}
 
 pub not_for : (t : ℕ) (p : Pair) → p.tap ≢ t → is_for t p ≡ false
@@ -178,3 +181,32 @@ marks-lawful = record {
   lays-list = λ l e. let w = and_parts (rising 0 l) _ e in lays tap_limit 0 refl l w.0 w.1;
   empty-layout = refl;
 }
+
+-- what waits in the memory of marks
+module _ {R : Type 0} (k : Kind R) where
+  pub marks-rising : (n m t : ℕ) (cs : List (records.Change R)) → m < t → rising m (marks_in k n t cs) ≡ true
+  marks-rising zero m t cs h = refl
+  marks-rising (suc n) m t cs h =
+      let x = map (change_of k) (take field_limit cs) in
+      let rest = marks_in k n (t + 1) (drop field_limit cs) in
+      pair_cases t x rest (λ l. rising m l ≡ true) (λ _. marks-rising n m (t + 1) _ (omega arith))
+      (λ _. rising-cons m (pair t x) rest h (marks-rising n t (t + 1) _ (omega arith)))
+
+  -- the rows behind the first
+  pub length-rest : (n : ℕ) (cs : List (records.Change R)) → length cs ≡ field_limit * suc n → length (drop field_limit cs) ≡ field_limit * n
+  length-rest n cs h = length-drop field_limit cs ∙ omega arith
+
+  pub length-first : (n : ℕ) (cs : List (records.Change R)) → length cs ≡ field_limit * suc n → length (map (change_of k) (take field_limit cs)) ≡ field_limit
+  length-first n cs h = length-map (take field_limit cs) (change_of k) ∙ length-take-le field_limit cs (omega arith)
+
+  pub marks-wait : (n t : ℕ) (cs : List (records.Change R)) → 1 ≤ t → t + n ≤ tap_limit + 1 → length cs ≡ field_limit * n → list_all may_wait (marks_in k n t cs) ≡ true
+  marks-wait zero t cs low high long = refl
+  marks-wait (suc n) t cs low high long =
+      let x = map (change_of k) (take field_limit cs) in
+      let rest = marks-wait n (t + 1) (drop field_limit cs) (omega arith) (omega arith) (length-rest n cs long) in
+      pair_cases t x _ (λ l. list_all may_wait l ≡ true) (λ _. rest)
+      (λ e. and_from _ _ (may_wait-from t x (and_from _ _ (le-leb 1 t low) (le-leb t tap_limit (omega arith))) (length-first n cs long) e) rest)
+
+  pub marks-held : (cs : List (records.Change R)) → length cs ≡ cell_limit → marks.holds (marks_of k cs) ≡ true
+  marks-held cs long =
+      and_from _ _ (marks-rising tap_limit 0 1 cs (omega arith)) (marks-wait tap_limit 1 cs (omega arith) (omega arith) long)

@@ -72,7 +72,6 @@ abbrev pub drop_answer : List Pair → Result (Unit {0}) Refusal
 drop_answer [] = Err (refusal Nothing)
 drop_answer (p ∷ l) = Ok tt
 
--- memory as the kind keeps it: it holds a list that it can hold, and exactly the records of what that list lays out
-pub record Kept {R : Type 0} (k : Kind R) (b : Policy) (places : List (records.Change R)) (l : List Pair) : Type 0 where
-  pub listed : b.holds l ≡ true
-  pub laid : places ≡ map (held k) (b.layout l)
+-- memory as the kind keeps it: exactly the records of what the list lays out
+abbrev pub Kept : {R : Type 0} → Kind R → Policy → List (records.Change R) → List Pair → Type 0
+Kept k b memory l = memory ≡ map (held k) (b.layout l)

@@ -1,20 +1,24 @@
 -- A queue keeps the laws of a waiting buffer.
 use Rattle.std.specs.Prelude.{◌≡◌, ◌≢◌, ℕ, ◌+◌, ◌-◌, ◌*◌, ◌≤◌, Bool, true, cond, not, List, [], ◌∷◌, ◌++◌, map, length, replicate, fold, filter, sum_by, nat_le, refl}
-use Rattle.std.proofs.Common.{sym, ap, ◌∙◌, arith}
+use Rattle.std.proofs.Common.{zero, suc, take, drop, not-suc-le-zero, sym, ap, ◌∙◌, arith}
 use Rattle.std.specs.List.{list_all}
-use Rattle.std.proofs.lemmas.Bool.{and_parts, and_from, cond_both, cond-true, eq-eqb, ne_eqb, le-leb, leb-true, lt-ltb, ltb-true}
-use Rattle.std.proofs.lemmas.List.{append-nil, length-append, length-replicate, map-append}
+use Rattle.std.proofs.lemmas.Bool.{and_parts, and_from, cond_both, cond-true, eq-eqb, ne_eqb, le-leb, leb-true, lt-ltb, ltb-true, not-true}
+use Rattle.std.proofs.lemmas.List.{append-nil, length-append, length-replicate, map-append, length-drop, length-map, length-take, length-take-le, take-append-drop}
 use Rattle.std.proofs.lemmas.List.Elements.{filter-append}
 use Rattle.std.proofs.lemmas.List.Folds.{list_all-append, sum_by-replicate}
 use Rattle.std.proofs.lemmas.List.Sums.{fold-append, sum_by-append, length-filter, count_by-le-length}
+use Rattle.row.specs.Kinds.{Kind}
 use Rattle.row.specs.Limits.{field_limit}
+use Rattle.row.specs.Records.{change_of}
+use Rattle.row.specs.declared.change.Change as records
 use Rattle.row.specs.Rows.{Change, same, join, blank, all_same}
 use Rattle.row.specs.Taps.{is_tap}
-use Rattle.waiting.specs.Limits.{pair_limit}
+use Rattle.waiting.specs.Limits.{pair_limit, queue_limit}
 use Rattle.waiting.specs.Lists.{Pair, pair, is_for, may_wait, changing, waiting_for, joined, deltas, without, pair_of_changes}
 use Rattle.waiting.specs.ListsLaws.{join-same, length-deltas, list_all-filter, may_wait-from}
 use Rattle.waiting.specs.Policies.{Put, Lawful}
-use Rattle.waiting.specs.Queues.{queue, queue_of}
+use Rattle.waiting.specs.Queues.{queue, queue_of, pairs_in}
+use Rattle.waiting.specs.Rows.{rows_wait}
 
 joined-append : (t : ℕ) (l m : List Pair) → joined t (l ++ m) ≡ fold join (joined t l) (waiting_for t m)
 joined-append t l m =
@@ -96,3 +100,37 @@ module _ (limit : ℕ) (some : 1 ≤ limit) where
 
 pub queue-lawful : Lawful queue
 queue-lawful = queue_of-lawful pair_limit (omega arith)
+
+-- what waits in the memory of a queue
+module _ {R : Type 0} (k : Kind R) where
+  pub rows-less : (m n : ℕ) (cs : List (records.Change R)) → m ≤ n → rows_wait k n cs ≡ true → rows_wait k m cs ≡ true
+  rows-less zero n cs h e = refl
+  rows-less (suc m) zero cs h e = absurd (not-suc-le-zero h)
+  rows-less (suc m) (suc n) cs h e =
+      let w = and_parts _ (rows_wait k n (drop field_limit cs)) e in
+      and_from _ _ w.0 (rows-less m n (drop field_limit cs) (omega arith) w.1)
+
+  pairs-wait : (ts : List ℕ) (cs : List (records.Change R)) → field_limit * length ts ≤ length cs → list_all is_tap ts ≡ true → rows_wait k (length ts) cs ≡ true → list_all may_wait (pairs_in k ts cs) ≡ true
+  pairs-wait [] cs inside known busy = refl
+  pairs-wait (t ∷ ts) cs inside known busy =
+      let row = take field_limit cs in
+      let taps = and_parts (is_tap t) (list_all is_tap ts) known in
+      let rows = and_parts (not (all_same (map (change_of k) row))) (rows_wait k (length ts) (drop field_limit cs)) busy in
+      let whole : length (map (change_of k) row) ≡ field_limit = length-map row (change_of k) ∙ length-take-le field_limit cs (omega arith) in
+      and_from _ _ (may_wait-from t (map (change_of k) row) taps.0 whole (not-true _ rows.0)) (pairs-wait ts (drop field_limit cs) (omega (arith, length-drop field_limit cs)) taps.1 rows.1)
+
+  length-pairs : (ts : List ℕ) (cs : List (records.Change R)) → length (pairs_in k ts cs) ≡ length ts
+  length-pairs [] cs = refl
+  length-pairs (t ∷ ts) cs = ap suc (length-pairs ts (drop field_limit cs))
+
+  -- it is one that a queue of so many pairs can hold
+  pub pairs-held : (limit : ℕ) (ts : List ℕ) (cs : List (records.Change R)) → length ts ≤ limit → field_limit * length ts ≤ length cs → list_all is_tap ts ≡ true → rows_wait k (length ts) cs ≡ true → (queue_of limit).holds (pairs_in k ts cs) ≡ true
+  pairs-held limit ts cs few inside known busy =
+      and_from _ _ (le-leb _ limit (omega (arith, length-pairs ts cs))) (pairs-wait ts cs inside known busy)
+
+  pub queue-held : (len : ℕ) (taps : List ℕ) (cs : List (records.Change R)) → len ≤ pair_limit → length cs ≡ queue_limit → list_all is_tap taps ≡ true → rows_wait k len cs ≡ true → queue.holds (pairs_in k (take len taps) cs) ≡ true
+  queue-held len taps cs few whole known busy =
+      let ts = take len taps in
+      let short : length ts ≤ len = omega (arith, length-take len taps) in
+      let taps-known = (and_parts _ _ (sym (list_all-append is_tap ts (drop len taps)) ∙ ap (list_all is_tap) (take-append-drop len taps) ∙ known)).0 in
+      pairs-held pair_limit ts cs (omega arith) (omega arith) taps-known (rows-less (length ts) len cs short busy)

@@ -30,5 +30,5 @@ pairs_in k [] cs = []
 pairs_in k (t ∷ ts) cs = pair t (map (change_of k) (take field_limit cs)) ∷ pairs_in k ts (drop field_limit cs)
 
 -- what waits in a queue
-abbrev pub queued : {R : Type 0} → Kind R → Queue R → List Pair
+abbrev pub queued : {R : Type 0} {g : _} → Kind R → Queue R g → List Pair
 queued k q = pairs_in k (take q.len q.taps) q.changes.now

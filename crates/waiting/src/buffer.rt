@@ -1,5 +1,5 @@
 // A kind of waiting buffer.
-ghost use Rattle.std.specs.Prelude.{◌≡◌, List, [], map, length, drop, ◌==◌, IfOk, IfErr, is_ok};
+ghost use Rattle.std.specs.Prelude.{◌≡◌, true, List, [], map, length, drop, ◌==◌, IfOk, IfErr, is_ok};
 ghost use Rattle.std.specs.Result.{result_map_both};
 ghost use Rattle.std.specs.Borrow.{GName};
 ghost use Rattle.row.specs.Limits.{field_limit};
@@ -106,4 +106,7 @@ pub trait Waiting<'a, R: Value>: Drop {
         ensures { result.now ≡ memory self.now };
 
     ghost lawful: { Lawful policy };
+
+    // Each buffer's list is one that its kind can hold.
+    ghost held: { (w : Self) → policy.holds (list w) ≡ true };
 }

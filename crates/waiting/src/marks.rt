@@ -51,7 +51,7 @@ fn count_waiting<R: Value>(changes: &[Change<R>]) -> usize
 
 impl<'a, R: Value> Waiting<'a, R> for Marks<'a, R> {
     ghost use Rattle.waiting.specs.Marks.{marks};
-    ghost use Rattle.waiting.specs.MarksLaws.{marks-lawful};
+    ghost use Rattle.waiting.specs.MarksLaws.{marks-lawful, marks-held};
 
     ghost policy = { marks };
 
@@ -62,6 +62,8 @@ impl<'a, R: Value> Waiting<'a, R> for Marks<'a, R> {
     ghost lent = { λ m. m.changes.ghost_name };
 
     ghost lawful = { marks-lawful };
+
+    ghost held = { λ m. marks-held R.kind m.changes.now m.whole };
 
     fn places() -> usize {
         CELL_LIMIT

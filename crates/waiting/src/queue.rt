@@ -3,6 +3,7 @@ ghost use Rattle.std.specs.Prelude.{◌≡◌, ◌+◌, ◌≤◌, ◌<◌, true
 ghost use Rattle.std.specs.List.{list_all};
 ghost use Rattle.row.specs.Taps.{is_tap};
 ghost use Rattle.waiting.specs.Limits.{pair_limit, queue_limit};
+ghost use Rattle.waiting.specs.Rows.{rows_wait};
 
 use crate::buffer::{Pair, Unfit, Waiting};
 use crate::rows::{copy_changes, remove_row, row, store_row};
@@ -17,13 +18,14 @@ pub const QUEUE_LIMIT: usize = PAIR_LIMIT * FIELD_LIMIT;
 // Up to `PAIR_LIMIT` pairs: the tap of each by its number, and its delta as a row of the lent memory.
 // kept: tap numbers and no `Tap`, since a struct that holds a `&mut` may be no type argument where a struct in it has an invariant
 #[derive(Drop)]
-pub struct Queue<'a, R> {
+pub struct Queue<'a, R: Value> {
     changes: &'a mut [Change<R>],
     taps: [usize; PAIR_LIMIT],
     len: usize,
     ghost whole: { length changes.now ≡ queue_limit },
     ghost known: { list_all is_tap taps ≡ true },
     ghost few: { len ≤ pair_limit },
+    ghost busy: { rows_wait R.kind len changes.now ≡ true },
 }
 
 impl<R: Value> Queue<'_, R> {
@@ -46,7 +48,7 @@ impl<R: Value> Queue<'_, R> {
 
 impl<'a, R: Value> Waiting<'a, R> for Queue<'a, R> {
     ghost use Rattle.waiting.specs.Queues.{queue, queued};
-    ghost use Rattle.waiting.specs.QueueLaws.{queue-lawful};
+    ghost use Rattle.waiting.specs.QueueLaws.{queue-lawful, queue-held};
 
     ghost policy = { queue };
 
@@ -57,6 +59,8 @@ impl<'a, R: Value> Waiting<'a, R> for Queue<'a, R> {
     ghost lent = { λ q. q.changes.ghost_name };
 
     ghost lawful = { queue-lawful };
+
+    ghost held = { λ q. queue-held R.kind q.len q.taps q.changes.now q.few q.whole q.known q.busy };
 
     fn places() -> usize {
         QUEUE_LIMIT
@@ -90,9 +94,9 @@ impl<'a, R: Value> Waiting<'a, R> for Queue<'a, R> {
             return Ok(());
         }
         let i = self.len;
+        store_row(self.changes, i, delta);
         self.taps[i] = tap.number();
         self.len = i + 1;
-        store_row(self.changes, i, delta);
         Ok(())
     }
 
@@ -126,9 +130,11 @@ impl<'a, R: Value> Waiting<'a, R> for Queue<'a, R> {
     }
 
     fn copy_to(&self, other: &mut Queue<'a, R>) {
+        // no row of it waits while the rows change
+        other.len = 0;
+        copy_changes(self.changes, other.changes);
         other.taps = self.taps;
         other.len = self.len;
-        copy_changes(self.changes, other.changes);
     }
 
     fn count(&self) -> usize {
