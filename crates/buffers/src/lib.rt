@@ -1,4 +1,4 @@
-// Waiting buffers: a kind of one pair beside those of `waiting`, and scripted runs of all kinds, as tests.
+// Waiting buffers: scripted runs of all kinds, as tests; a kind of one pair; and what no kind may be.
 #![tactic(auto)]
 
 mod impostors;

@@ -93,6 +93,7 @@ impl<'a, R: Value> Waiting<'a, R> for Queue<'a, R> {
         if all_same(delta) {
             return Ok(());
         }
+        // the row before the count: a row that is counted has a change that is not same
         let i = self.len;
         store_row(self.changes, i, delta);
         self.taps[i] = tap.number();
