@@ -1,4 +1,4 @@
-// An input answered to its end.
+//! An input answered to its end.
 ghost use Rattle.std.specs.Prelude.{◌+◌, ◌^◌, ◌<◌, length, IfSome, OnOk};
 ghost use Rattle.std.specs.Io.KnownBytes.{Appends};
 ghost use Rattle.streams.specs.Feeding.{printed};
@@ -9,7 +9,7 @@ use std::io::{self, Read, Write};
 
 const BLOCK: usize = 65536;
 
-// Answers the lines of an input. What has been answered is written before the next read, which may wait for input.
+/// Answers the lines of an input. What has been answered is written before the next read, which may wait for input.
 pub fn answer_all<H: Hear, R: Read, W: Write>(
     rt: &impl AllocGlobal,
     listener: H,
