@@ -1,15 +1,16 @@
 -- Lines: the reader of `specs/Lines` against which bytes say which message.
 use Rattle.std.proofs.Common.{◌≡◌, ℕ, suc, ◌+◌, ◌^◌, ◌<◌, ◌≤◌, Bool, true, false, cond, eqb, leb, List, [], ◌∷◌, ◌++◌, length, drop, Some, None, Ok, Err, Option, Result, sym, refl, ap, ◌∙◌, subst, ⊎_elim, arith}
-use Rattle.std.specs.Option.{option_map}
+use Rattle.std.specs.Option.{ok_or, option_map}
 use Rattle.std.specs.List.{AllByRecursion}
 use Rattle.std.proofs.lemmas.List.{length-append, take_at, drop_at, drop-drop}
 use Rattle.std.proofs.lemmas.Bool.{or_parts, or_from, cases_Bool, eqb-true, leb-true, le-leb, le-ltb, lt-ltb, cond-true, cond-false}
-use Rattle.row.specs.declared.fault.Fault.{Fault}
+use Rattle.row.specs.Faults.{refusal}
+use Rattle.row.specs.declared.fault.Fault.TheVariants.{Escape, Number}
 use Rattle.row.specs.declared.fault.Refusal.{Refusal}
 use Rattle.tlcp.specs.Escapes.{decoded, ReadsEscapes}
 use Rattle.tlcp.specs.Limits.{line_limit}
 use Rattle.tlcp.specs.Parts.{before, behind, place_of, Piece}
-use Rattle.tlcp.specs.Lines.{word, tags, tag_of, Sort, number, code, text, list, sorts, Argument, numbered, coded, worded, listed, Message, piece, front, rest, and_then, ahead, or_fault, sound_or, read_argument, read_arguments, arguments_of, message_of, read_tagged, read_line, Kept, piece_of, has_comma, Laid, none, last, more, Says, ReadsSaid}
+use Rattle.tlcp.specs.Lines.{word, tags, tag_of, Sort, number, code, text, list, sorts, Argument, numbered, coded, worded, listed, Message, piece, front, rest, and_then, ahead, sound_or, unsound, read_argument, read_arguments, arguments_of, message_of, read_tagged, read_line, Kept, piece_of, has_comma, Laid, none, last, more, Says, ReadsSaid}
 use Rattle.tlcp.specs.declared.tag.Tag.{Tag}
 use Rattle.tlcp.specs.declared.tag.Tag.TheVariants.{U, Probe, Sync, Loop, Cons, Servname, Clientip, Reqok, Unsub, Conerr, End, Error, Eos, Subok, Ov, Conf, Reqerr, Conok}
 use Rattle.tlcp.proofs.Reading.{refused}
@@ -91,42 +92,42 @@ known Reqerr = (refl, refl, omega arith)
 known Conok = (refl, refl, omega arith)
 
 -- a sort reads a part, or refuses it
-some-from : {X : Type 0} (f : Fault) (at : ℕ) (arg : X → Argument) (o : Option X) (a : Argument) → or_fault f at arg o ≡ Ok a → (x : X) × (o ≡ Some x) × (arg x ≡ a)
-some-from f at arg None a e = refused e
-some-from f at arg (Some x) a e = (x, refl, cc)
+some-from : {X : Type 0} (arg : X → Argument) (o : Option X) (r : Refusal) (a : Argument) → ok_or (option_map arg o) r ≡ Ok a → (x : X) × (o ≡ Some x) × (arg x ≡ a)
+some-from arg None r a e = refused e
+some-from arg (Some x) r a e = (x, refl, cc)
 
-sound-from : (p : Piece) (o : Option ℕ) (a : Argument) → sound_or p o ≡ Ok a → (o ≡ None) × (worded p ≡ a)
-sound-from p None a e = (refl, cc)
-sound-from p (Some n) a e = refused e
+sound-from : (p : Piece) (o : Option ℕ) (r : Refusal) (a : Argument) → ok_or (sound_or p o) r ≡ Ok a → (o ≡ None) × (worded p ≡ a)
+sound-from p None r a e = (refl, cc)
+sound-from p (Some n) r a e = refused e
 
 piece-read : (k : Sort) (p : Piece) (a : Argument) → read_argument k p ≡ Ok a → piece_of a ≡ p
-piece-read (number low high) p a e = let (n, is, same) = some-from _ _ _ _ a e in ap piece_of (sym same)
-piece-read code p a e = let (z, is, same) = some-from _ _ _ _ a e in ap piece_of (sym same)
-piece-read text p a e = ap piece_of (sym (sound-from p _ a e).1)
+piece-read (number low high) p a e = let (n, is, same) = some-from _ _ _ a e in ap piece_of (sym same)
+piece-read code p a e = let (z, is, same) = some-from _ _ _ a e in ap piece_of (sym same)
+piece-read text p a e = ap piece_of (sym (sound-from p _ _ a e).1)
 piece-read list p a e = let same : listed p ≡ a = cc in ap piece_of (sym same)
 
 module _ (escapes : ReadsEscapes) where
   argument-read : (k : Sort) → Bounded k → (p : Piece) (a : Argument) → read_argument k p ≡ Ok a → Kept k a
-  argument-read (number low high) bound p a e = let (n, is, same) = some-from _ _ _ _ a e in subst (Kept (number low high)) same ((reads-decimal low high n p.text bound).0 is)
-  argument-read code bound p a e = let (z, is, same) = some-from _ _ _ _ a e in subst (Kept code) same ((reads-signed z p.text).0 is)
+  argument-read (number low high) bound p a e = let (n, is, same) = some-from _ _ _ a e in subst (Kept (number low high)) same ((reads-decimal low high n p.text bound).0 is)
+  argument-read code bound p a e = let (z, is, same) = some-from _ _ _ a e in subst (Kept code) same ((reads-signed z p.text).0 is)
   argument-read text bound p a e =
-      let (sound, same) = sound-from p _ a e in
+      let (sound, same) = sound-from p _ _ a e in
       let whole = (decoded p.text).bytes in
       subst (Kept text) same (whole, (escapes p.text whole).0 (λ i. record { bytes = whole; fault = sound i }))
   argument-read list bound p a e = let same : listed p ≡ a = cc in subst (Kept list) same tt
 
   read-argument : (k : Sort) → Bounded k → (a : Argument) → Kept k a → read_argument k (piece_of a) ≡ Ok a
-  read-argument (number low high) bound (numbered p n) (is, above, below) = ap (or_fault _ _ _) ((reads-decimal low high n p.text bound).1 is above below)
+  read-argument (number low high) bound (numbered p n) (is, above, below) = ap (λ o. ok_or (option_map (numbered p) o) (refusal Number p.at)) ((reads-decimal low high n p.text bound).1 is above below)
   read-argument (number low high) bound (coded p z) kept = absurd kept
   read-argument (number low high) bound (worded p) kept = absurd kept
   read-argument (number low high) bound (listed p) kept = absurd kept
   read-argument code bound (numbered p n) kept = absurd kept
-  read-argument code bound (coded p z) (is, within) = ap (or_fault _ _ _) ((reads-signed z p.text).1 is within)
+  read-argument code bound (coded p z) (is, within) = ap (λ o. ok_or (option_map (coded p) o) (refusal Number p.at)) ((reads-signed z p.text).1 is within)
   read-argument code bound (worded p) kept = absurd kept
   read-argument code bound (listed p) kept = absurd kept
   read-argument text bound (numbered p n) kept = absurd kept
   read-argument text bound (coded p z) kept = absurd kept
-  read-argument text bound (worded p) (t, decodes) = ap (λ d. sound_or p d.fault) ((escapes p.text t).1 decodes)
+  read-argument text bound (worded p) (t, decodes) = ap (λ d. ok_or (sound_or p d.fault) (refusal Escape (unsound p))) ((escapes p.text t).1 decodes)
   read-argument text bound (listed p) kept = absurd kept
   read-argument list bound (numbered p n) kept = absurd kept
   read-argument list bound (coded p z) kept = absurd kept

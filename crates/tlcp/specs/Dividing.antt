@@ -22,21 +22,3 @@ line_end (b ∷ s) = let n = line_end s in cond (ends_here (b ∷ s)) 0 (suc n)
 
 abbrev pub first_end : List ℕ → Option ℕ
 first_end s = cond (nat_lt (line_end s) (length s)) (Some (line_end s)) None
-
--- the next argument of those that are left, none of them the last, of a line of `end` bytes
-abbrev pub next_piece : ℕ → Option Piece → Result Piece Refusal
-next_piece end None = Err (refusal Parts end)
-next_piece end (Some p) = Ok (front p)
-
--- what is left behind it
-abbrev pub behind_next : Option Piece → Option Piece
-behind_next None = None
-behind_next (Some p) = rest p
-
-abbrev pub last_piece : ℕ → Option Piece → Result Piece Refusal
-last_piece end None = Err (refusal Parts end)
-last_piece end (Some p) = Ok p
-
-abbrev pub no_piece : Option Piece → Result (Unit {0}) Refusal
-no_piece None = Ok tt
-no_piece (Some p) = Err (refusal Parts p.at)

@@ -1,5 +1,5 @@
 -- Lines from the emulator: tags, arguments, and which bytes say which message.
-use Rattle.std.specs.Prelude.{◌≡◌, ℕ, zero, suc, ◌+◌, ◌≤◌, Bool, true, false, cond, ◌&&◌, List, [], ◌∷◌, ◌++◌, length, ℤ, Some, None, Ok, Err, codes, decimal, find, Option, Result, ◌==◌, nat_le}
+use Rattle.std.specs.Prelude.{◌≡◌, ℕ, zero, suc, ◌+◌, ◌≤◌, Bool, true, false, cond, ◌&&◌, List, [], ◌∷◌, ◌++◌, length, ℤ, Some, None, Ok, Err, codes, decimal, find, Option, Result, ◌==◌, nat_le, ok_or, unwrap_or}
 use Rattle.std.specs.Option.{option_map}
 use Rattle.std.specs.Fmt.{signed_decimal}
 use Rattle.row.specs.Limits.{field_limit}
@@ -131,20 +131,26 @@ divided (suc n) end None = Err (refusal Parts end)
 divided (suc zero) end (Some p) = Ok (p ∷ [])
 divided (suc (suc n)) end (Some p) = ahead (front p) (divided (suc n) end (rest p))
 
-module _ {X : Type 0} where
-  -- x, or a fault of the part p where there is none
-  abbrev pub or_fault : Fault → ℕ → (X → Argument) → Option X → Result Argument Refusal
-  or_fault f at arg None = Err (refusal f at)
-  or_fault f at arg (Some x) = Ok (arg x)
+-- where the first `%` stands that begins no escape, or where the part ends
+abbrev pub unsound : Piece → ℕ
+unsound p = p.at + unwrap_or (decoded p.text).fault (length p.text)
 
-abbrev pub sound_or : Piece → Option ℕ → Result Argument Refusal
-sound_or p None = Ok (worded p)
-sound_or p (Some n) = Err (refusal Escape (p.at + n))
+abbrev pub sound_or : Piece → Option ℕ → Option Argument
+sound_or p None = Some (worded p)
+sound_or p (Some n) = None
 
+-- a part as an argument of a sort, if it is one
+abbrev pub argument_in : Sort → Piece → Option Argument
+argument_in (number low high) p = option_map (numbered p) (number_of low high p.text)
+argument_in code p = option_map (coded p) (code_of p.text)
+argument_in text p = sound_or p (decoded p.text).fault
+argument_in list p = Some (listed p)
+
+-- the argument, or what is at fault in a part that is none: the number or code, or the `%`
 abbrev pub read_argument : Sort → Piece → Result Argument Refusal
-read_argument (number low high) p = or_fault Number p.at (numbered p) (number_of low high p.text)
-read_argument code p = or_fault Number p.at (coded p) (code_of p.text)
-read_argument text p = sound_or p (decoded p.text).fault
+read_argument (number low high) p = ok_or (argument_in (number low high) p) (refusal Number p.at)
+read_argument code p = ok_or (argument_in code p) (refusal Number p.at)
+read_argument text p = ok_or (argument_in text p) (refusal Escape (unsound p))
 read_argument list p = Ok (listed p)
 
 abbrev pub read_arguments : List Sort → List Piece → Result (List Argument) Refusal
