@@ -1,11 +1,7 @@
 -- Texts divided by the ends of lines, words among others, and the pieces of a line one after another.
-use Rattle.std.specs.Prelude.{ℕ, suc, Bool, cond, ◌&&◌, List, [], ◌∷◌, length, find, Some, None, Ok, Err, Option, Result, ◌==◌, nat_le, nat_lt, slice_index}
-use Rattle.row.specs.declared.fault.Fault.TheVariants.{Parts}
-use Rattle.row.specs.declared.fault.Refusal.{Refusal}
-use Rattle.row.specs.Faults.{refusal}
-use Rattle.tlcp.specs.Lines.{front, rest, same_bytes}
+use Rattle.std.specs.Prelude.{ℕ, suc, Bool, cond, ◌&&◌, List, [], ◌∷◌, length, find, Some, None, Option, ◌==◌, nat_le, nat_lt, slice_index}
+use Rattle.tlcp.specs.Lines.{same_bytes}
 pub use Rattle.tlcp.specs.Parts.{has, divided_by, each_behind, joined_by, NoneHas}
-use Rattle.tlcp.specs.Parts.{Piece}
 
 -- the first of some things whose word a text is
 abbrev pub first_with : {X : Type 0} → (X → List ℕ) → List X → List ℕ → Option X
