@@ -12,7 +12,7 @@ use Rattle.tlcp.proofs.Encoded.{has-append, has-decimal}
 use Rattle.tlcp.proofs.Unescaped.{decodes-by}
 use Rattle.tlcp.proofs.Unescaped.{plain-percent, reads-escapes}
 use Rattle.tlcp.specs.Lines as lines
-use Rattle.tlcp.specs.Lines.{Sort, sorts, word, piece, piece_of, has_comma, Kept, Laid, none, last, more, Says}
+use Rattle.tlcp.specs.Lines.{Sort, sorts, word, piece, piece_of, has_comma, OfSort, Laid, none, last, more, Says}
 use Rattle.tlcp.specs.declared.tag.Tag.{Tag}
 use Rattle.tlcp.proofs.Saying.{reads-said}
 use Rattle.notify.specs.Given.{Given, code, Saying, spell, argued, is_within, all_within, within, line_text}
@@ -34,7 +34,7 @@ code-within : (z : ℤ) → is_within lines.code (code z) ≡ true → CodeWithi
 code-within z is = search rules
 
 -- what is within the limits of a sort is kept by it
-kept : (k : Sort) (g : Given) (at : ℕ) → is_within k g ≡ true → Sound g → Kept k (argument g at)
+kept : (k : Sort) (g : Given) (at : ℕ) → is_within k g ≡ true → Sound g → OfSort k (argument g at)
 kept k g at is sound = search (rules, code-within, decodes-by is_escaped plain-percent, false≢true)
 
 piece_is : (g : Given) (at : ℕ) → piece_of (argument g at) ≡ piece (spell g) at

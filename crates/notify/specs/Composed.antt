@@ -1,7 +1,7 @@
 -- A line composed argument by argument.
 use Rattle.std.specs.Prelude.{ℕ, cond, List, [], ◌∷◌, ◌++◌, Ok, Err, Result}
 use Rattle.row.specs.declared.fault.Refusal.{Refusal}
-use Rattle.tlcp.specs.Bounds.{has_room, text_of}
+use Rattle.tlcp.specs.Bounds.{has_room, bounded_text}
 use Rattle.tlcp.specs.Written.{no_room}
 use Rattle.tlcp.specs.Limits.{line_limit}
 use Rattle.tlcp.specs.Lines.{and_then}
@@ -10,7 +10,7 @@ use Rattle.notify.specs.declared.draft.Draft.{Draft}
 
 -- what has been composed so far
 abbrev pub held : Draft → List ℕ
-held d = text_of {N = line_limit} d.line
+held d = bounded_text {N = line_limit} d.line
 
 -- s and then t, if a line may be so long
 abbrev pub extended : List ℕ → List ℕ → Result (List ℕ) Refusal

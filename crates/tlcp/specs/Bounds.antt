@@ -12,8 +12,8 @@ use Rattle.tlcp.specs.Lists.{uncovered, written_list}
 use Rattle.tlcp.specs.Written.{changes_of, covers, no_room}
 use Rattle.tlcp.specs.declared.bounded.Bounded.{Bounded}
 
-abbrev pub text_of : {N : ℕ} → Bounded N → List ℕ
-text_of b = take b.len b.bytes
+abbrev pub bounded_text : {N : ℕ} → Bounded N → List ℕ
+bounded_text b = take b.len b.bytes
 
 abbrev pub has_room : ℕ → List ℕ → List ℕ → Bool
 has_room limit s t = nat_le (length s + length t) limit

@@ -2,6 +2,8 @@
 use Rattle.std.specs.Prelude.{◌≡◌, ℕ, ◌+◌, ◌-◌, ◌*◌, ◌/◌, ◌%◌, Bool, true, false, cond, ◌&&◌, List, [], ◌∷◌, ◌++◌, length, take, drop, Some, None, Ok, Err, Option, Result, ◌==◌, nat_le, slice_index}
 use Rattle.row.specs.declared.fault.Fault.TheVariants.{Escape}
 use Rattle.row.specs.declared.fault.Refusal.{Refusal}
+use Rattle.row.specs.Faults.{refusal}
+use Rattle.tlcp.specs.Parts.{is_nil}
 use Rattle.tlcp.specs.Bytes.{is_digit, is_hex, is_escaped, is_escaped_first}
 
 abbrev pub hex_value : ℕ → ℕ
@@ -34,7 +36,7 @@ decoded s = decode_at 0 s
 -- the byte that the front of s stands for, and what is left behind it
 abbrev pub unit_of : List ℕ → Option (ℕ × List ℕ)
 unit_of s =
-    cond (length s == 0) None
+    cond (is_nil s) None
     (cond (slice_index s 0 == 37)
     (cond (nat_le 3 (length s) && (is_hex (slice_index s 1) && is_hex (slice_index s 2))) (Some (16 * hex_value (slice_index s 1) + hex_value (slice_index s 2), drop 3 s)) None)
     (Some (slice_index s 0, drop 1 s)))
@@ -42,7 +44,7 @@ unit_of s =
 -- how many bytes there are, or the place of the fault
 abbrev pub count_or : ℕ → Option ℕ → Result ℕ Refusal
 count_or n None = Ok n
-count_or n (Some at) = Err (record { fault = Escape; place = at })
+count_or n (Some at) = Err (refusal Escape at)
 
 abbrev pub decode_answer : Decoded → Result ℕ Refusal
 decode_answer d = count_or (length d.bytes) d.fault

@@ -7,8 +7,8 @@ use Rattle.row.specs.Faults.{moved, refusal}
 use Rattle.row.specs.declared.fault.Fault.TheVariants.{Escape, Number, Cover, Value}
 use Rattle.row.specs.declared.fault.Refusal.{Refusal}
 use Rattle.tlcp.specs.Escapes.{decoded, Decodes, encode}
-use Rattle.tlcp.specs.Numbers.{number_of}
-use Rattle.tlcp.specs.Parts.{divided_by, each_behind, has, joined_by, NoneHas}
+use Rattle.tlcp.specs.Numbers.{read_number}
+use Rattle.tlcp.specs.Parts.{divided_by, each_behind, has, is_nil, joined_by, NoneHas}
 
 -- the values of a list: what stands between its pipes
 abbrev pub values : List ℕ → List (List ℕ)
@@ -33,21 +33,18 @@ abbrev pub caret_or : Option ℕ → Result Meant Refusal
 caret_or None = Err (refusal Number 0)
 caret_or (Some n) = Ok (sames n)
 
-abbrev pub is_nil : List ℕ → Bool
-is_nil v = length v == 0
-
 -- one value, with places counted from its first byte
 abbrev pub read_value : (List ℕ → Bool) → List ℕ → Result Meant Refusal
 read_value allowed [] = Ok (sames 1)
 read_value allowed (b ∷ v) =
-    let caret = caret_or (number_of 1 field_limit v) in
+    let caret = caret_or (read_number 1 field_limit v) in
     let content = read_content allowed (b ∷ v) in
     let dollar = cond (b == 36 && is_nil v) (read_text allowed []) content in
     let hash = cond (b == 35 && is_nil v) (Ok (one (becomes null))) dollar in
     cond (b == 94) caret hash
 
 -- d and then the rest, unless the rest is refused
-abbrev pub ahead : List Change → Result (List Change) Refusal → Result (List Change) Refusal
+abbrev pub ahead : {X : Type 0} → List X → Result (List X) Refusal → Result (List X) Refusal
 ahead d (Ok e) = Ok (d ++ e)
 ahead d (Err r) = Err r
 
@@ -115,8 +112,8 @@ pub record Spells (allowed : List ℕ → Bool) (s : List ℕ) (d : List Change)
   pub means : Row allowed parts d
 
 -- the reader accepts exactly the lists that spell a delta of the row's fields, and takes each for that delta
-abbrev pub ReadsSpelled : Type 0
-ReadsSpelled =
+abbrev pub ReadsLists : Type 0
+ReadsLists =
     (allowed : List ℕ → Bool) (fields : ℕ) (s : List ℕ) (d : List Change) → fields ≤ field_limit
     → (read_list allowed fields s ≡ Ok d → Spells allowed s d × (length d ≡ fields))
     × (Spells allowed s d → length d ≡ fields → read_list allowed fields s ≡ Ok d)

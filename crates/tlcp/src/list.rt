@@ -3,7 +3,7 @@ ghost use Rattle.std.specs.Prelude.{◌≡◌, ◌+◌, ◌-◌, ◌<◌, ◌≤
 ghost use Rattle.row.specs.Limits.{field_limit};
 ghost use Rattle.row.specs.Records.{memory_refusal};
 ghost use Rattle.tlcp.specs.Held.{size_or, slot_after, held_delta, answer_of};
-ghost use Rattle.tlcp.specs.Lists.{uncovered, values, read_text, read_content, read_value, read_values, read_list, ReadsSpelled};
+ghost use Rattle.tlcp.specs.Lists.{uncovered, values, read_text, read_content, read_value, read_values, read_list, ReadsLists};
 
 use crate::bounded::Bounded;
 use crate::number::{Limits, read_number};
@@ -121,7 +121,7 @@ pub fn read_list<R: Value>(
     ensures answer { result ≡ (if nat_eq (length delta.old) field_limit then answer_of (read_list R.kind.allowed fields list.now) else Err memory_refusal) }
     ensures changes { delta.new ≡ (if nat_eq (length delta.old) field_limit then held_delta R.kind (read_list R.kind.allowed fields list.now) else delta.old) }
     ensures within { IfErr result (λ e. e.place ≤ length list.now) }
-    ensures spelled { ReadsSpelled }
+    ensures spelled { ReadsLists }
 {
     if delta.len() != FIELD_LIMIT {
         return Err(Refusal::MEMORY);

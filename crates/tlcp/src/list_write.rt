@@ -2,7 +2,7 @@
 ghost use Rattle.std.specs.Prelude.{◌≡◌, ◌+◌, ◌*◌, ◌≤◌, map, length, Ok};
 ghost use Rattle.row.specs.Limits.{field_limit, text_limit};
 ghost use Rattle.row.specs.Records.{change_of};
-ghost use Rattle.tlcp.specs.Bounds.{Adds, text_of};
+ghost use Rattle.tlcp.specs.Bounds.{Adds, bounded_text};
 ghost use Rattle.tlcp.specs.Lists.{each_piped, run_values, text_value, written_values};
 ghost use Rattle.std.specs.Result.{result_map_both};
 ghost use Rattle.tlcp.specs.Written.{covers, field_room, piped_limit, values_of, list_answer, list_placed, ReadBack};
@@ -26,8 +26,8 @@ type Piped = Bounded<PIPED_LIMIT>;
 // A text as a value.
 fn put_text(list: &mut Piped, text: &[u8]) -> Result<(), Refusal>
     requires short { length text.now ≤ text_limit }
-    requires room { length (text_of list.old) + 3 * text_limit ≤ piped_limit }
-    ensures { Adds (text_of list.old) (text_value text.now) result (text_of list.new) }
+    requires room { length (bounded_text list.old) + 3 * text_limit ≤ piped_limit }
+    ensures { Adds (bounded_text list.old) (text_value text.now) result (bounded_text list.new) }
 {
     match text {
         [] => list.put(b"$"),
@@ -41,8 +41,8 @@ fn put_text(list: &mut Piped, text: &[u8]) -> Result<(), Refusal>
 // A run of same, each value behind a pipe.
 fn put_run(list: &mut Piped, run: usize) -> Result<(), Refusal>
     requires few { run ≤ field_limit }
-    requires room { length (text_of list.old) + field_room * run ≤ piped_limit }
-    ensures { Adds (text_of list.old) (each_piped (run_values run)) result (text_of list.new) }
+    requires room { length (bounded_text list.old) + field_room * run ≤ piped_limit }
+    ensures { Adds (bounded_text list.old) (each_piped (run_values run)) result (bounded_text list.new) }
 {
     if run <= 3 {
         let pipes = [b'|'; 3];
@@ -54,8 +54,8 @@ fn put_run(list: &mut Piped, run: usize) -> Result<(), Refusal>
 
 // The value of a change, behind a pipe. One that is same has none of its own.
 fn put_change<R: Value>(list: &mut Piped, change: &Change<R>) -> Result<(), Refusal>
-    requires { length (text_of list.old) + field_room ≤ piped_limit }
-    ensures { Adds (text_of list.old) (each_piped (values_of (change_of R.kind change.now))) result (text_of list.new) }
+    requires { length (bounded_text list.old) + field_room ≤ piped_limit }
+    ensures { Adds (bounded_text list.old) (each_piped (values_of (change_of R.kind change.now))) result (bounded_text list.new) }
 {
     match change.mark {
         Mark::Same => Ok(()),
@@ -73,7 +73,7 @@ fn put_change<R: Value>(list: &mut Piped, change: &Change<R>) -> Result<(), Refu
 // The values of a delta, each behind a pipe.
 fn piped<R: Value>(delta: &[Change<R>]) -> Result<Piped, Refusal>
     requires { length delta.now ≤ field_limit }
-    ensures { result_map_both text_of (λ e. e) result ≡ Ok (each_piped (written_values 0 (map (change_of R.kind) delta.now))) }
+    ensures { result_map_both bounded_text (λ e. e) result ≡ Ok (each_piped (written_values 0 (map (change_of R.kind) delta.now))) }
 {
     let mut list = Piped::new();
     let mut run = 0;

@@ -1,6 +1,7 @@
 //! Numbers in decimal, without sign or leading zero, and codes, which may be negative.
 ghost use Rattle.std.specs.Prelude.{◌≡◌, ℕ, ◌≤◌, ◌||◌, length, ℤ, IfSome, ◌==◌};
-ghost use Rattle.tlcp.specs.Numbers.{leading_zero, number_of, code_of};
+ghost use Rattle.tlcp.specs.Numbers.{leading_zero, read_number, read_code};
+ghost use Rattle.tlcp.specs.Parts.{is_nil};
 ghost use Rattle.tlcp.specs.Holding.{hold};
 
 use crate::class::{Class, is_of};
@@ -60,7 +61,7 @@ const FROM_ZERO: Limits = Limits {
 
 // Empty, or with a zero before other digits.
 fn is_misshapen(s: &[u8]) -> bool
-    ensures { result ≡ (length s.now == 0 || leading_zero s.now) }
+    ensures { result ≡ (is_nil s.now || leading_zero s.now) }
 {
     matches!(s, [] | [b'0', _, ..])
 }
@@ -68,7 +69,7 @@ fn is_misshapen(s: &[u8]) -> bool
 /// The number that `s` writes, if it is within the limits.
 // kept: digit by digit; the library's `parse` takes a sign and leading zeros
 pub fn read_number(s: &[u8], limits: Limits) -> Option<u32>
-    ensures value { result ≡ number_of limits.low limits.high s.now }
+    ensures value { result ≡ read_number limits.low limits.high s.now }
     ensures bound { IfSome result (λ n. (limits.low ≤ n) × (n ≤ limits.high)) }
 {
     if is_misshapen(s) {
@@ -90,7 +91,7 @@ pub fn read_number(s: &[u8], limits: Limits) -> Option<u32>
 
 /// The code that `s` writes: a number up to the limit, or one below zero with a minus before it.
 pub fn read_code(s: &[u8]) -> Option<i32>
-    ensures { result ≡ code_of s.now }
+    ensures { result ≡ read_code s.now }
 {
     match s {
         [b'-', digits @ ..] => read_number(digits, BELOW_ZERO).map(|n| -(n as i32)),

@@ -3,7 +3,8 @@ use Rattle.std.specs.Option.{ok_or, option_map}
 use Rattle.row.specs.Faults.{refusal}
 use Rattle.row.specs.declared.fault.Fault.TheVariants.{Escape}
 use Rattle.row.specs.declared.fault.Refusal.{Refusal}
-use Rattle.tlcp.specs.Lines.{Argument, ahead, arguments_of, code, divided, message_of, read_arguments, text, unsound}
+use Rattle.tlcp.specs.Lines.{Argument, arguments_of, code, divided, message_of, read_arguments, text, unsound}
+use Rattle.tlcp.specs.Lists.{ahead}
 use Rattle.tlcp.specs.Said.{coding, piece_in, wording}
 use Rattle.tlcp.specs.declared.tag.Tag.TheVariants.{Reqerr}
 use Rattle.tlcp.proofs.Reading.{first-then}
@@ -14,7 +15,7 @@ parts : (c : In-Some-text) → divided 3 c.args.self.end (option_map piece_in c.
 parts c = search rules
 
 -- the first argument is a text, and the others are read from their parts
-then : (c : In-Some-text) (others : Result (List Argument) Refusal) → others ≡ read_arguments (code ∷ text ∷ []) (piece_in c.in-Some-next.code ∷ piece_in c.in-Some-left.message ∷ []) → ahead (wording c.in-Some-text.request) others ≡ arguments_of (text ∷ code ∷ text ∷ []) c.args.self.end (option_map piece_in c.args.self.left)
+then : (c : In-Some-text) (others : Result (List Argument) Refusal) → others ≡ read_arguments (code ∷ text ∷ []) (piece_in c.in-Some-next.code ∷ piece_in c.in-Some-left.message ∷ []) → ahead (wording c.in-Some-text.request ∷ []) others ≡ arguments_of (text ∷ code ∷ text ∷ []) c.args.self.end (option_map piece_in c.args.self.left)
 then c others behind =
     let first = ap (λ o. ok_or o (refusal Escape (unsound (piece_in c.in-Some.request)))) c.in-Some-text.ensures in
     first-then text (code ∷ text ∷ []) c.args.self.end (option_map piece_in c.args.self.left) _ _ _ others (parts c) first behind
