@@ -59,7 +59,9 @@ fn compose(message: Message<'_>) -> Result<Draft, Refusal>
     }
 }
 
-/// Writes the line of a message, without its end, from the place `at` on, if it fits, and answers the place behind it.
+/// Writes the line of a message, without its end, from the place `at` on, and answers the place behind it.
+/// Refuses with 4 a number or code beyond its limits, and with 16 a line of more than 1,172 bytes or one that
+/// does not fit; the memory is then as it was.
 pub fn write_line(out: &mut [u8], at: usize, message: Message<'_>) -> Result<usize, Refusal>
     ensures answer { result ≡ line_answer (saying_of message.entry) at out.old }
     ensures bytes { out.new ≡ line_placed (saying_of message.entry) at out.old }
@@ -82,8 +84,10 @@ fn compose_update<R: Value>(id: u32, delta: &[Change<R>], fields: usize) -> Resu
     Draft::of(Tag::U).number(id)?.number(1)?.list(delta, fields)
 }
 
-/// Writes the line that updates the first fields of a row, without its end, from the place `at` on, if it fits, and answers
-/// the place behind it.
+/// Writes the U line of the first `fields` fields of a delta, without its end, from the place `at` on, and
+/// answers the place behind it. Refuses with 1 a delta that is not twelve changes, with 4 an ID that is not 1
+/// to 9,999, with 7 a row of no or more than twelve fields, and with 16 a line that does not fit; the memory
+/// is then as it was.
 pub fn write_update<R: Value>(
     out: &mut [u8],
     at: usize,

@@ -22,7 +22,7 @@ pub type Number<'a> = Valued<'a, u32>;
 pub type Code<'a> = Valued<'a, i32>;
 
 impl<'a> Part<'a> {
-    /// The number that the part writes, if it writes one within the limits.
+    /// The number that the part writes; none where it is malformed or beyond the limits.
     pub(crate) fn number(self, limits: Limits) -> Option<Number<'a>>
         ensures { option_map numbering result ≡ argument_in (number limits.low limits.high) (piece_in self.entry) }
     {
@@ -30,7 +30,7 @@ impl<'a> Part<'a> {
         Some(Valued { part: self, value })
     }
 
-    /// The code that the part writes, if it writes one.
+    /// The code that the part writes; none where it is malformed or beyond the limit.
     pub(crate) fn code(self) -> Option<Code<'a>>
         ensures { option_map coding result ≡ argument_in code (piece_in self.entry) }
     {
@@ -38,7 +38,7 @@ impl<'a> Part<'a> {
         Some(Valued { part: self, value })
     }
 
-    /// The part itself, if its escapes are sound.
+    /// The part itself, as a text; none where a `%` begins no escape.
     pub(crate) fn text(self) -> Option<Part<'a>>
         ensures { option_map wording result ≡ argument_in text (piece_in self.entry) }
     {

@@ -10,15 +10,14 @@ use crate::number::{Limits, read_number};
 use crate::text::split;
 use row::{Change, FIELD_LIMIT, Fault, Mark, Refusal, TEXT_LIMIT, Value, blank};
 
-/// The row is not covered exactly: the whole list is at fault.
+/// The refusal of a list that does not cover its row exactly, or of a row that no list covers: 7 at 0, since
+/// the whole list is at fault.
 pub const UNCOVERED: Refusal = Refusal {
     fault: Fault::Cover,
     place: 0,
 };
 
 // A text in the place of a value.
-// kept: from here to `read_value` three clauses, which the check finds one by one; of one relation each way out would want
-// an answer
 fn read_text<R: Value>(text: &[u8], slot: &mut Change<R>) -> Result<usize, Refusal>
     ensures answer { result ≡ size_or (read_text R.kind.allowed text.now) }
     ensures change { slot.new ≡ slot_after R.kind (read_text R.kind.allowed text.now) slot.old }
@@ -56,7 +55,7 @@ fn read_content<R: Value>(value: &[u8], slot: &mut Change<R>) -> Result<usize, R
     }
 }
 
-// One value. Answers how many fields it speaks of, and sets the change of the first one unless they are same.
+// One value. Answers how many fields it speaks of, and sets the change of the first unless they are same.
 // Places are counted from the value's first byte.
 fn read_value<R: Value>(value: &[u8], slot: &mut Change<R>) -> Result<usize, Refusal>
     ensures answer { result ≡ size_or (read_value R.kind.allowed value.now) }
@@ -85,12 +84,10 @@ fn read_values<R: Value>(list: &[u8], fields: usize, delta: &mut [Change<R>]) ->
     ensures changes { is_ok result ≡ true → delta.new ≡ held_delta R.kind (read_values R.kind.allowed 0 fields (values list.now)) }
     ensures within { IfErr result (λ e. e.place ≤ length list.now) }
 {
-    // kept: a value covers one field or several, so no iterator steps through the places
     let mut covered = 0;
     let mut left = list;
     while covered < fields {
         let (value, rest) = split(left, b'|');
-        // kept: of `map_err` and `?` the proof did not close
         let more = match read_value(value, &mut delta[covered]) {
             Ok(more) => more,
             Err(refusal) => return Err(refusal.moved_by(list.len() - left.len())),
@@ -111,8 +108,11 @@ fn read_values<R: Value>(list: &[u8], fields: usize, delta: &mut [Change<R>]) ->
     Err(UNCOVERED)
 }
 
-/// Reads a list for a row of so many fields. The delta's twelve places then hold what the list says, with same
-/// behind the fields, or where it is refused twelve same.
+/// Reads a list for a row of so many fields. The delta's twelve places then hold what the list says, with
+/// same behind the fields, or where it is refused twelve same. Refuses with 1 a delta that is not twelve
+/// changes, which stays as it is. Then from left to right: with 3 a `%` that begins no escape, with 4 a caret
+/// without a number of fields, with 8 a text that the kind does not allow, each at its offset; and with 7, at
+/// 0, as soon as a value goes past the row or the list ends before it.
 pub fn read_list<R: Value>(
     list: &[u8],
     fields: usize,

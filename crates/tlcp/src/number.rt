@@ -16,7 +16,7 @@ pub const COUNT_LIMIT: u32 = 999_999_999;
 /// The largest magnitude of a code.
 pub const CODE_LIMIT: u32 = 999_999;
 
-/// The numbers that a place takes: from `low` to `high`.
+/// The numbers that a place takes: from `low` to `high`, both included.
 #[derive(Clone, Copy)]
 pub struct Limits {
     pub low: u32,
@@ -24,6 +24,7 @@ pub struct Limits {
 }
 
 impl Limits {
+    /// a subscription ID
     pub const ID: Limits = Limits {
         low: 1,
         high: ID_LIMIT,
@@ -31,16 +32,19 @@ impl Limits {
     /// an item, and how many there are
     pub const SINGLE: Limits = Limits { low: 1, high: 1 };
 
+    /// a row's number of fields
     pub const FIELDS: Limits = Limits {
         low: 1,
         high: FIELD_LIMIT as u32,
     };
 
+    /// a count
     pub const COUNT: Limits = Limits {
         low: 0,
         high: COUNT_LIMIT,
     };
 
+    /// Whether a number is within the limits.
     pub fn hold(self, n: u32) -> bool
         ensures { result ≡ hold self n }
     {
@@ -66,8 +70,9 @@ fn is_misshapen(s: &[u8]) -> bool
     matches!(s, [] | [b'0', _, ..])
 }
 
-/// The number that `s` writes, if it is within the limits.
-// kept: digit by digit; the library's `parse` takes a sign and leading zeros
+/// The number that `s` writes; none where it is empty, has another byte than digits or a zero before other
+/// digits, or is beyond the limits.
+// The library's `parse` takes a sign and leading zeros.
 pub fn read_number(s: &[u8], limits: Limits) -> Option<u32>
     ensures value { result ≡ read_number limits.low limits.high s.now }
     ensures bound { IfSome result (λ n. (limits.low ≤ n) × (n ≤ limits.high)) }
@@ -89,7 +94,8 @@ pub fn read_number(s: &[u8], limits: Limits) -> Option<u32>
     (u64::from(low) <= value).then_some(value as u32)
 }
 
-/// The code that `s` writes: a number up to the limit, or one below zero with a minus before it.
+/// The code that `s` writes: a number up to `CODE_LIMIT`, or one below zero with a minus before it. None where
+/// it is neither; `-0` is none.
 pub fn read_code(s: &[u8]) -> Option<i32>
     ensures { result ≡ read_code s.now }
 {

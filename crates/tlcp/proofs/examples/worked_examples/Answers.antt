@@ -15,5 +15,8 @@ returns c = record {
   hash-inside = refl;
   long-read = refl;
   too_long = refl;
+  logic-fits = refl;
+  logic-read = refl;
+  logic-words = refl;
   joining = λ v w. refl;
 }
