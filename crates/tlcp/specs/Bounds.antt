@@ -1,5 +1,6 @@
 -- Bytes up to a limit, and bytes appended to them where there is room.
-use Rattle.std.specs.Prelude.{◌≡◌, ℕ, ◌+◌, Bool, cond, List, ◌++◌, length, take, Some, None, Ok, Err, Option, Result, ◌==◌, nat_le}
+use Rattle.std.specs.Prelude.{◌≡◌, ℕ, ◌+◌, Bool, cond, List, ◌++◌, length, take, Some, None, Ok}
+use Rattle.std.specs.Prelude.{Err, Option, Result, ◌==◌, nat_le}
 use Rattle.row.specs.Kinds.{Kind}
 use Rattle.row.specs.Limits.{field_limit}
 use Rattle.row.specs.Records.{memory_refusal}
@@ -43,7 +44,8 @@ module _ {R : Type 0} (k : Kind R) where
   abbrev pub list_room_answer : ℕ → List ℕ → List (Change R) → ℕ → Result (Unit {0}) Refusal
   list_room_answer limit s delta fields =
       let answer = room_answer limit s (written_list (changes_of k delta fields)) in
-      cond (length delta == field_limit) (cond (covers fields) answer (Err uncovered)) (Err memory_refusal)
+      cond (length delta == field_limit) (cond (covers fields) answer (Err uncovered))
+      (Err memory_refusal)
 
   abbrev pub list_extended : ℕ → List ℕ → List (Change R) → ℕ → List ℕ
   list_extended limit s delta fields =

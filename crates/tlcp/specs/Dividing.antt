@@ -1,5 +1,6 @@
 -- Texts divided by the ends of lines, and by a byte.
-use Rattle.std.specs.Prelude.{ℕ, suc, Bool, cond, ◌&&◌, List, [], ◌∷◌, length, Some, None, Option, ◌==◌, nat_le, nat_lt, slice_index}
+use Rattle.std.specs.Prelude.{ℕ, suc, Bool, cond, ◌&&◌, List, [], ◌∷◌, length, Some, None, Option}
+use Rattle.std.specs.Prelude.{◌==◌, nat_le, nat_lt, slice_index}
 pub use Rattle.tlcp.specs.Parts.{first_with, has, divided_by, each_behind, joined_by, NoneHas}
 
 -- a text begins with CR LF

@@ -29,11 +29,15 @@ pub record Examples : Type 0 where
   pub hash-escaped : text_value (codes "#") ≡ codes "%23"
   pub hash-inside : text_value (codes "a#") ≡ codes "a#"
   -- the longest text, and one byte more
-  pub long-read : by_numbers (read_list text_allowed 1 (replicate 32 97)) ≡ accepted (to (replicate 32 97) ∷ [])
+  pub long-read : by_numbers (read_list text_allowed 1 (replicate 32 97))
+      ≡ accepted (to (replicate 32 97) ∷ [])
   pub too_long : by_numbers (read_list text_allowed 1 (replicate 33 97)) ≡ refused 8 0
   -- a logic value
   pub logic-fits : logic_allowed (codes "01xz") ≡ true
-  pub logic-read : by_numbers (read_list logic_allowed 1 (codes "01xz")) ≡ accepted (to (codes "01xz") ∷ [])
+  pub logic-read : by_numbers (read_list logic_allowed 1 (codes "01xz"))
+      ≡ accepted (to (codes "01xz") ∷ [])
   pub logic-words : logic_record (codes "01xz") ≡ record { a = 6; b = 3; width = 4 }
   -- (v, same, null) joined with (same, w, same) is (v, w, null)
-  pub joining : (v w : List ℕ) → join (to v ∷ same ∷ becomes null ∷ []) (same ∷ to w ∷ same ∷ []) ≡ to v ∷ to w ∷ becomes null ∷ []
+  pub joining : (v w : List ℕ)
+      → join (to v ∷ same ∷ becomes null ∷ []) (same ∷ to w ∷ same ∷ [])
+      ≡ to v ∷ to w ∷ becomes null ∷ []

@@ -1,5 +1,7 @@
 -- Lines from the emulator: tags, arguments, and which bytes say which message.
-use Rattle.std.specs.Prelude.{◌≡◌, ℕ, zero, suc, ◌+◌, ◌≤◌, Bool, false, cond, List, [], ◌∷◌, ◌++◌, length, ℤ, Some, None, Ok, Err, codes, decimal, Option, Result, nat_le, ok_or, unwrap_or}
+use Rattle.std.specs.Prelude.{◌≡◌, ℕ, zero, suc, ◌+◌, ◌≤◌, Bool, false, cond, List, [], ◌∷◌, ◌++◌}
+use Rattle.std.specs.Prelude.{length, ℤ, Some, None, Ok, Err, codes, decimal, Option, Result}
+use Rattle.std.specs.Prelude.{nat_le, ok_or, unwrap_or}
 use Rattle.std.specs.Option.{option_map}
 use Rattle.std.specs.Fmt.{signed_decimal}
 use Rattle.row.specs.Limits.{field_limit}
@@ -13,7 +15,9 @@ use Rattle.tlcp.specs.Lists.{ahead}
 pub use Rattle.tlcp.specs.Parts.{same_bytes}
 use Rattle.tlcp.specs.Parts.{before, behind, first_with, has, place_of, Piece}
 use Rattle.tlcp.specs.declared.tag.Tag.{Tag}
-use Rattle.tlcp.specs.declared.tag.Tag.TheVariants.{U, Probe, Sync, Loop, Cons, Servname, Clientip, Reqok, Unsub, Conerr, End, Error, Eos, Subok, Ov, Conf, Reqerr, Conok}
+use Rattle.tlcp.specs.declared.tag.Tag.TheVariants.{U, Probe, Sync, Loop, Cons, Servname, Clientip}
+use Rattle.tlcp.specs.declared.tag.Tag.TheVariants.{Reqok, Unsub, Conerr, End, Error, Eos, Subok}
+use Rattle.tlcp.specs.declared.tag.Tag.TheVariants.{Ov, Conf, Reqerr, Conok}
 
 abbrev pub word : Tag → List ℕ
 word U = codes "U"
@@ -36,7 +40,9 @@ word Reqerr = codes "REQERR"
 word Conok = codes "CONOK"
 
 abbrev pub tags : List Tag
-tags = U ∷ Probe ∷ Sync ∷ Loop ∷ Cons ∷ Servname ∷ Clientip ∷ Reqok ∷ Unsub ∷ Conerr ∷ End ∷ Error ∷ Eos ∷ Subok ∷ Ov ∷ Conf ∷ Reqerr ∷ Conok ∷ []
+tags =
+    U ∷ Probe ∷ Sync ∷ Loop ∷ Cons ∷ Servname ∷ Clientip ∷ Reqok ∷ Unsub ∷ Conerr ∷ End ∷ Error
+    ∷ Eos ∷ Subok ∷ Ov ∷ Conf ∷ Reqerr ∷ Conok ∷ []
 
 abbrev pub tag_of : List ℕ → Option Tag
 tag_of = first_with word tags
@@ -147,7 +153,8 @@ read_argument list p = Ok (listed p)
 abbrev pub read_arguments : List Sort → List Piece → Result (List Argument) Refusal
 read_arguments [] ps = Ok []
 read_arguments (s ∷ ss) [] = Ok []
-read_arguments (s ∷ ss) (p ∷ ps) = and_then (read_argument s p) (λ a. ahead (a ∷ []) (read_arguments ss ps))
+read_arguments (s ∷ ss) (p ∷ ps) =
+    and_then (read_argument s p) (λ a. ahead (a ∷ []) (read_arguments ss ps))
 
 -- the arguments of a line, of the given sorts
 abbrev pub arguments_of : List Sort → ℕ → Option Piece → Result (List Argument) Refusal
@@ -159,10 +166,13 @@ message_of t name (Err r) = Err r
 
 abbrev pub read_tagged : List ℕ → Option Tag → Result Message Refusal
 read_tagged s None = Err (refusal Unknown 0)
-read_tagged s (Some t) = message_of t (front (piece s 0)) (arguments_of (sorts t) (length s) (rest (piece s 0)))
+read_tagged s (Some t) =
+    message_of t (front (piece s 0)) (arguments_of (sorts t) (length s) (rest (piece s 0)))
 
 abbrev pub read_line : List ℕ → Result Message Refusal
-read_line s = let read = read_tagged s (tag_of (before 44 s)) in cond (nat_le (length s) line_limit) read (Err (refusal Length 0))
+read_line s =
+    let read = read_tagged s (tag_of (before 44 s)) in
+    cond (nat_le (length s) line_limit) read (Err (refusal Length 0))
 
 -- which bytes an argument of a sort may be, and for what it is then taken
 abbrev pub OfSort : Sort → Argument → Type 0
@@ -192,13 +202,19 @@ piece_of (listed p) = p
 abbrev pub has_comma : List ℕ → Bool
 has_comma = has 44
 
--- arguments of some sorts stand side by side from the offset `at` on, each behind a comma; only in the last one may commas stand
+-- arguments of some sorts stand side by side from the offset `at` on, each behind a comma; only in
+-- the last one may commas stand
 pub data Laid : List Sort → ℕ → List Argument → List ℕ → Type 0 where
   none : {at : ℕ} → Laid [] at [] []
-  last : {k : Sort} {at : ℕ} {a : Argument} → OfSort k a → (piece_of a).at ≡ at + 1 → Laid (k ∷ []) at (a ∷ []) (44 ∷ (piece_of a).text)
-  more : {k j : Sort} {ks : List Sort} {at : ℕ} {a : Argument} {others : List Argument} {s : List ℕ} → OfSort k a → (piece_of a).at ≡ at + 1 → has_comma (piece_of a).text ≡ false → Laid (j ∷ ks) (at + (length (piece_of a).text + 1)) others s → Laid (k ∷ j ∷ ks) at (a ∷ others) (44 ∷ ((piece_of a).text ++ s))
+  last : {k : Sort} {at : ℕ} {a : Argument} → OfSort k a → (piece_of a).at ≡ at + 1
+      → Laid (k ∷ []) at (a ∷ []) (44 ∷ (piece_of a).text)
+  more : {k j : Sort} {ks : List Sort} {at : ℕ} {a : Argument} {others : List Argument} {s : List ℕ}
+      → OfSort k a → (piece_of a).at ≡ at + 1 → has_comma (piece_of a).text ≡ false
+      → Laid (j ∷ ks) (at + (length (piece_of a).text + 1)) others s
+      → Laid (k ∷ j ∷ ks) at (a ∷ others) (44 ∷ ((piece_of a).text ++ s))
 
--- a line says a message: it is not too long, and is the tag's word and then the arguments that the tag asks for
+-- a line says a message: it is not too long, and is the tag's word and then the arguments that the
+-- tag asks for
 pub record Says (s : List ℕ) (m : Message) : Type 0 where
   pub short : length s ≤ line_limit
   pub tail : List ℕ
@@ -208,4 +224,5 @@ pub record Says (s : List ℕ) (m : Message) : Type 0 where
 
 -- the reader accepts exactly the lines that say a message, and takes each for that message
 abbrev pub ReadsSaid : Type 0
-ReadsSaid = (s : List ℕ) (m : Message) → (read_line s ≡ Ok m → Says s m) × (Says s m → read_line s ≡ Ok m)
+ReadsSaid =
+    (s : List ℕ) (m : Message) → (read_line s ≡ Ok m → Says s m) × (Says s m → read_line s ≡ Ok m)

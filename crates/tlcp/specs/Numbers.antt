@@ -1,5 +1,7 @@
 -- Numbers in decimal, without sign or leading zero; codes, which may be negative.
-use Rattle.std.specs.Prelude.{◌≡◌, ℕ, suc, ◌+◌, ◌-◌, ◌*◌, ◌^◌, ◌<◌, ◌≤◌, Bool, cond, ◌&&◌, ◌||◌, List, [], ◌∷◌, length, drop, ℤ, pos, negsuc, Some, None, decimal, Option, ◌==◌, nat_le, nat_lt, slice_index}
+use Rattle.std.specs.Prelude.{◌≡◌, ℕ, suc, ◌+◌, ◌-◌, ◌*◌, ◌^◌, ◌<◌, ◌≤◌, Bool, cond, ◌&&◌, ◌||◌}
+use Rattle.std.specs.Prelude.{List, [], ◌∷◌, length, drop, ℤ, pos, negsuc, Some, None, decimal}
+use Rattle.std.specs.Prelude.{Option, ◌==◌, nat_le, nat_lt, slice_index}
 use Rattle.std.specs.Option.{option_map}
 use Rattle.std.specs.Fmt.{signed_decimal}
 use Rattle.tlcp.specs.Bytes.{is_digit}
@@ -21,7 +23,8 @@ abbrev pub leading_zero : List ℕ → Bool
 leading_zero s = nat_lt 1 (length s) && slice_index s 0 == 48
 
 abbrev pub read_number : ℕ → ℕ → List ℕ → Option ℕ
-read_number low high s = cond (is_nil s || leading_zero s) None (at_least low (digits_from high 0 s))
+read_number low high s =
+    cond (is_nil s || leading_zero s) None (at_least low (digits_from high 0 s))
 
 -- the number below zero with this magnitude, which is not 0
 abbrev pub negated : ℕ → ℤ
@@ -29,7 +32,9 @@ negated n = negsuc (n - 1)
 
 -- `-0` is no code
 abbrev pub read_code : List ℕ → Option ℤ
-read_code s = cond (slice_index s 0 == 45) (option_map negated (read_number 1 code_limit (drop 1 s))) (option_map pos (read_number 0 code_limit s))
+read_code s =
+    cond (slice_index s 0 == 45) (option_map negated (read_number 1 code_limit (drop 1 s)))
+    (option_map pos (read_number 0 code_limit s))
 
 -- a number is read exactly where its decimal text stands, and it is within the limits
 abbrev pub ReadsDecimal : Type 0

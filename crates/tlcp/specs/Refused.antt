@@ -27,7 +27,8 @@ pub record RefusedLists : Type 0 where
   pub not-logic : by_numbers (read_list logic_allowed 2 (codes "0|12")) ≡ refused 8 2
   pub no_logic : by_numbers (read_list logic_allowed 2 (codes "0|$")) ≡ refused 8 2
   -- 3 before 8 in one value
-  pub escape-then-long : by_numbers (read_list text_allowed 1 (replicate 33 97 ++ codes "%4")) ≡ refused 3 33
+  pub escape-then-long : by_numbers (read_list text_allowed 1 (replicate 33 97 ++ codes "%4"))
+      ≡ refused 3 33
   -- values from left to right: what is wrong with one before those behind it, and before 7
   pub first-of-two : by_numbers (read_list text_allowed 2 (codes "^0|%4")) ≡ refused 4 0
   pub bad-then-more : by_numbers (read_list text_allowed 2 (codes "%4|b|c")) ≡ refused 3 0

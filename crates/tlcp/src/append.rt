@@ -1,10 +1,12 @@
 //! Bytes appended up to a limit.
-ghost use Rattle.std.specs.Prelude.{◌≡◌, ◌<◌, ◌≤◌, [], length, IfErr, take, Some, None, if◌then◌else◌, nat_le, decimal};
+ghost use Rattle.std.specs.Prelude.{◌≡◌, ◌<◌, ◌≤◌, [], length, IfErr, take, Some, None};
+ghost use Rattle.std.specs.Prelude.{if◌then◌else◌, nat_le, decimal};
 ghost use Rattle.std.specs.Option.{option_map};
 ghost use Rattle.tlcp.specs.Bytes.{in_class};
 ghost use Rattle.tlcp.specs.Escapes.{encoded_by};
 ghost use Rattle.std.specs.Result.{result_map_both};
-ghost use Rattle.tlcp.specs.Bounds.{decoded_within, extended, list_extended, list_room_answer, bounded_text, room_answer};
+ghost use Rattle.tlcp.specs.Bounds.{decoded_within, extended, list_extended, list_room_answer};
+ghost use Rattle.tlcp.specs.Bounds.{bounded_text, room_answer};
 
 use crate::bounded::Bounded;
 use crate::class::Class;
@@ -27,7 +29,8 @@ impl<const N: usize> Bounded<N> {
 
     /// The first `len` of some bytes; none where `len` is more than `N`.
     pub fn of(bytes: [u8; N], len: usize) -> Option<Bounded<N>>
-        ensures { option_map bounded_text result ≡ (if nat_le len N then Some (take len bytes.entry) else None) }
+        ensures { option_map bounded_text result
+            ≡ (if nat_le len N then Some (take len bytes.entry) else None) }
     {
         // no closure: its result would have the parameter `N`, which nothing that it takes names
         if len <= N {
@@ -37,10 +40,11 @@ impl<const N: usize> Bounded<N> {
         }
     }
 
-    /// The bytes that a text with escapes stands for; none where they are more than `N`. Refuses with 3 what
-    /// `decode` refuses, however many bytes there are.
+    /// The bytes that a text with escapes stands for; none where they are more than `N`. Refuses
+    /// with 3 what `decode` refuses, however many bytes there are.
     pub fn decoded(text: &[u8]) -> Result<Option<Bounded<N>>, Refusal>
-        ensures answer { result_map_both (option_map bounded_text) (λ e. e) result ≡ decoded_within N text.now }
+        ensures answer { result_map_both (option_map bounded_text) (λ e. e) result
+            ≡ decoded_within N text.now }
         ensures within { IfErr result (λ r. r.place < length text.now) }
     {
         let mut bytes = [0; N];
@@ -73,22 +77,26 @@ impl<const N: usize> Bounded<N> {
         Ok(())
     }
 
-    /// Appends a text, its bytes of the class escaped. Refuses with 16 for want of room, and then holds what
-    /// it held.
+    /// Appends a text, its bytes of the class escaped. Refuses with 16 for want of room, and then
+    /// holds what it held.
     pub fn put_escaped(&mut self, text: &[u8], class: Class) -> Result<(), Refusal>
-        ensures answer { result ≡ room_answer N (bounded_text self.old) (encoded_by (in_class class) text.now) }
-        ensures text { bounded_text self.new ≡ extended N (bounded_text self.old) (encoded_by (in_class class) text.now) }
+        ensures answer { result
+            ≡ room_answer N (bounded_text self.old) (encoded_by (in_class class) text.now) }
+        ensures text { bounded_text self.new
+            ≡ extended N (bounded_text self.old) (encoded_by (in_class class) text.now) }
     {
         self.len = put_escaped(&mut self.bytes, self.len, text, class)?;
         Ok(())
     }
 
-    /// Appends the changes of the first `fields` fields of a delta as a value list. Refuses with 1 a delta that
-    /// is not twelve changes, with 7 a row of no or more than twelve fields, and with 16 for want of room; it
-    /// then holds what it held.
+    /// Appends the changes of the first `fields` fields of a delta as a value list. Refuses with 1
+    /// a delta that is not twelve changes, with 7 a row of no or more than twelve fields, and with
+    /// 16 for want of room; it then holds what it held.
     pub fn put_list<R: Value>(&mut self, delta: &[Change<R>], fields: usize) -> Result<(), Refusal>
-        ensures answer { result ≡ list_room_answer R.kind N (bounded_text self.old) delta.now fields }
-        ensures text { bounded_text self.new ≡ list_extended R.kind N (bounded_text self.old) delta.now fields }
+        ensures answer { result
+            ≡ list_room_answer R.kind N (bounded_text self.old) delta.now fields }
+        ensures text { bounded_text self.new
+            ≡ list_extended R.kind N (bounded_text self.old) delta.now fields }
     {
         self.len = write_list(&mut self.bytes, self.len, delta, fields)?;
         Ok(())

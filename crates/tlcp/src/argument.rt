@@ -24,7 +24,8 @@ pub type Code<'a> = Valued<'a, i32>;
 impl<'a> Part<'a> {
     /// The number that the part writes; none where it is malformed or beyond the limits.
     pub(crate) fn number(self, limits: Limits) -> Option<Number<'a>>
-        ensures { option_map numbering result ≡ argument_in (number limits.low limits.high) (piece_in self.entry) }
+        ensures { option_map numbering result
+            ≡ argument_in (number limits.low limits.high) (piece_in self.entry) }
     {
         let value = read_number(self.bytes, limits)?;
         Some(Valued { part: self, value })

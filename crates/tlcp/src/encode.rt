@@ -60,8 +60,9 @@ fn is_within(text: &[u8], class: Class, room: usize) -> bool
     true
 }
 
-/// Writes a text from the place `at` on, its bytes of the class as escapes with capital digits, and answers
-/// the place behind it. Refuses with 16 a text that does not fit, and has then touched nothing.
+/// Writes a text from the place `at` on, its bytes of the class as escapes with capital digits, and
+/// answers the place behind it. Refuses with 16 a text that does not fit, and has then touched
+/// nothing.
 pub fn put_escaped(out: &mut [u8], at: usize, text: &[u8], class: Class) -> Result<usize, Refusal>
     ensures answer { result ≡ end_or at (encoded_by (in_class class) text.now) out.old }
     ensures bytes { out.new ≡ placed_or at (encoded_by (in_class class) text.now) out.old }

@@ -1,5 +1,6 @@
 //! Escapes: `%` and two hexadecimal digits stand for one byte.
-ghost use Rattle.std.specs.Prelude.{◌≡◌, ◌<◌, ◌≤◌, true, length, IfSome, if◌then◌else◌, Some, None, MatchResult};
+ghost use Rattle.std.specs.Prelude.{◌≡◌, ◌<◌, ◌≤◌, true, length, IfSome, if◌then◌else◌, Some, None};
+ghost use Rattle.std.specs.Prelude.{MatchResult};
 ghost use Rattle.std.specs.Option.{option_map};
 ghost use Rattle.tlcp.specs.Bytes.{is_hex};
 ghost use Rattle.tlcp.specs.Escapes.{hex_value, unit_of, decoded, decode_answer, overlaid};
@@ -40,9 +41,9 @@ fn unit(s: &[u8]) -> Option<(u8, &[u8])>
     }
 }
 
-/// Decodes `s` into `out`, as much as there is room for, and answers how many bytes `s` stands for, also
-/// where they are more. Refuses with 3, at the `%`, the first one without two hexadecimal digits; `out` then
-/// has what comes before that.
+/// Decodes `s` into `out`, as much as there is room for, and answers how many bytes `s` stands for,
+/// also where they are more. Refuses with 3, at the `%`, the first one without two hexadecimal
+/// digits; `out` then has what comes before that.
 pub fn decode(s: &[u8], out: &mut [u8]) -> Result<usize, Refusal>
     ensures answer { result ≡ decode_answer (decoded s.now) }
     ensures bytes { out.new ≡ overlaid (decoded s.now).bytes out.old }

@@ -1,5 +1,5 @@
-//! Worked examples and tables, as theorems on the definitions. Nothing runs: each contract is a table
-//! whose rows are written out, so that a definition that is changed disagrees with a row.
+//! Worked examples and tables, as theorems on the definitions. Nothing runs: each contract is a
+//! table whose rows are written out, so that a definition that is changed disagrees with a row.
 ghost use Rattle.tlcp.specs.Examples.{Examples};
 ghost use Rattle.tlcp.specs.Refused.{RefusedTexts};
 ghost use Rattle.tlcp.specs.Tables.{Tables};

@@ -1,5 +1,6 @@
-//! The text of TLCP 2.0.0: byte classes, escapes, numbers, value lists and the emulator's lines, read; and
-//! value lists written. A refusal has a number and a place, an offset from 0; `row::Fault` has the numbers.
+//! The text of TLCP 2.0.0: byte classes, escapes, numbers, value lists and the emulator's lines,
+//! read; and value lists written. A refusal has a number and a place, an offset from 0;
+//! `row::Fault` has the numbers.
 #![tactic(auto)]
 
 mod append;

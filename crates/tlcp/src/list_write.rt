@@ -43,7 +43,8 @@ fn put_text(list: &mut Piped, text: &[u8]) -> Result<(), Refusal>
 fn put_run(list: &mut Piped, run: usize) -> Result<(), Refusal>
     requires few { run ≤ field_limit }
     requires room { length (bounded_text list.old) + field_room * run ≤ piped_limit }
-    ensures { Adds (bounded_text list.old) (each_piped (run_values run)) result (bounded_text list.new) }
+    ensures { Adds (bounded_text list.old) (each_piped (run_values run)) result
+        (bounded_text list.new) }
 {
     if run <= 3 {
         let pipes = [b'|'; 3];
@@ -56,7 +57,8 @@ fn put_run(list: &mut Piped, run: usize) -> Result<(), Refusal>
 // The value of a change, behind a pipe. One that is same has none of its own.
 fn put_change<R: Value>(list: &mut Piped, change: &Change<R>) -> Result<(), Refusal>
     requires { length (bounded_text list.old) + field_room ≤ piped_limit }
-    ensures { Adds (bounded_text list.old) (each_piped (values_of (change_of R.kind change.now))) result (bounded_text list.new) }
+    ensures { Adds (bounded_text list.old)
+        (each_piped (values_of (change_of R.kind change.now))) result (bounded_text list.new) }
 {
     match change.mark {
         Mark::Same => Ok(()),
@@ -73,7 +75,8 @@ fn put_change<R: Value>(list: &mut Piped, change: &Change<R>) -> Result<(), Refu
 // The values of a delta, each behind a pipe.
 fn piped<R: Value>(delta: &[Change<R>]) -> Result<Piped, Refusal>
     requires { length delta.now ≤ field_limit }
-    ensures { result_map_both bounded_text (λ e. e) result ≡ Ok (each_piped (written_values 0 (map (change_of R.kind) delta.now))) }
+    ensures { result_map_both bounded_text (λ e. e) result
+        ≡ Ok (each_piped (written_values 0 (map (change_of R.kind) delta.now))) }
 {
     let mut list = Piped::new();
     let mut run = 0;
@@ -97,10 +100,10 @@ pub fn covers(fields: usize) -> bool
     matches!(fields, 1..=FIELD_LIMIT)
 }
 
-/// Writes the changes of the first `fields` fields of a delta as a list from the place `at` on, and answers
-/// the place behind it. Refuses with 1 a delta that is not twelve changes, with 7 a row of no or more than
-/// twelve fields, and with 16 a list that does not fit, and has then touched nothing. A list has at most
-/// `LIST_LIMIT` bytes.
+/// Writes the changes of the first `fields` fields of a delta as a list from the place `at` on, and
+/// answers the place behind it. Refuses with 1 a delta that is not twelve changes, with 7 a row of
+/// no or more than twelve fields, and with 16 a list that does not fit, and has then touched
+/// nothing. A list has at most `LIST_LIMIT` bytes.
 pub fn write_list<R: Value>(
     out: &mut [u8],
     at: usize,

@@ -70,8 +70,8 @@ fn is_misshapen(s: &[u8]) -> bool
     matches!(s, [] | [b'0', _, ..])
 }
 
-/// The number that `s` writes; none where it is empty, has another byte than digits or a zero before other
-/// digits, or is beyond the limits.
+/// The number that `s` writes; none where it is empty, has another byte than digits or a zero
+/// before other digits, or is beyond the limits.
 // The library's `parse` takes a sign and leading zeros.
 pub fn read_number(s: &[u8], limits: Limits) -> Option<u32>
     ensures value { result ≡ read_number limits.low limits.high s.now }
@@ -94,8 +94,8 @@ pub fn read_number(s: &[u8], limits: Limits) -> Option<u32>
     (u64::from(low) <= value).then_some(value as u32)
 }
 
-/// The code that `s` writes: a number up to `CODE_LIMIT`, or one below zero with a minus before it. None where
-/// it is neither; `-0` is none.
+/// The code that `s` writes: a number up to `CODE_LIMIT`, or one below zero with a minus before it.
+/// None where it is neither; `-0` is none.
 pub fn read_code(s: &[u8]) -> Option<i32>
     ensures { result ≡ read_code s.now }
 {

@@ -1,5 +1,6 @@
-//! What lines say, by the shapes that tags ask for. Each reader divides the line into as many arguments
-//! as its tag has, and then reads them from left to right; the first miss is the line's refusal.
+//! What lines say, by the shapes that tags ask for. Each reader divides the line into as many
+//! arguments as its tag has, and then reads them from left to right; the first miss is the line's
+//! refusal.
 ghost use Rattle.std.specs.Prelude.{◌≡◌, [], ◌∷◌};
 ghost use Rattle.std.specs.Result.{result_map_both};
 ghost use Rattle.std.specs.Option.{option_map};
@@ -16,7 +17,9 @@ use row::{Fault, Refusal};
 
 impl<'a> Arguments<'a> {
     fn number(self, limits: Limits) -> Result<Number<'a>, Refusal>
-        ensures { result_map_both (λ n. numbering n ∷ []) (λ e. e) result ≡ arguments_of (lines.number limits.low limits.high ∷ []) self.entry.end (option_map piece_in self.entry.left) }
+        ensures { result_map_both (λ n. numbering n ∷ []) (λ e. e) result
+            ≡ arguments_of (lines.number limits.low limits.high ∷ []) self.entry.end
+            (option_map piece_in self.entry.left) }
     {
         let Some(part) = self.left else {
             return Err(Fault::Parts.at(self.end));
@@ -28,7 +31,8 @@ impl<'a> Arguments<'a> {
     }
 
     fn text(self) -> Result<Part<'a>, Refusal>
-        ensures { result_map_both (λ p. wording p ∷ []) (λ e. e) result ≡ arguments_of (lines.text ∷ []) self.entry.end (option_map piece_in self.entry.left) }
+        ensures { result_map_both (λ p. wording p ∷ []) (λ e. e) result
+            ≡ arguments_of (lines.text ∷ []) self.entry.end (option_map piece_in self.entry.left) }
     {
         let Some(part) = self.left else {
             return Err(Fault::Parts.at(self.end));
@@ -40,7 +44,9 @@ impl<'a> Arguments<'a> {
     }
 
     fn code_and_text(mut self) -> Result<(Code<'a>, Part<'a>), Refusal>
-        ensures { result_map_both (λ a. coding a.0 ∷ wording a.1 ∷ []) (λ e. e) result ≡ arguments_of (code ∷ lines.text ∷ []) self.entry.end (option_map piece_in self.entry.left) }
+        ensures { result_map_both (λ a. coding a.0 ∷ wording a.1 ∷ []) (λ e. e) result
+            ≡ arguments_of (code ∷ lines.text ∷ []) self.entry.end
+            (option_map piece_in self.entry.left) }
     {
         let Some(code) = self.next() else {
             return Err(Fault::Parts.at(self.end));

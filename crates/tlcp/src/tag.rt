@@ -4,8 +4,8 @@ ghost use Rattle.tlcp.specs.Lines.{tag_of, word};
 
 use crate::word::{Worded, first_with};
 
-/// What a line's first word may be. Other words, those of the protocol's other notifications among them, are
-/// unknown.
+/// What a line's first word may be. Other words, those of the protocol's other notifications among
+/// them, are unknown.
 #[derive(Clone, Copy, PartialEq, Debug)]
 pub enum Tag {
     U,
