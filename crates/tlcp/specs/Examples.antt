@@ -37,6 +37,20 @@ pub record Examples : Type 0 where
   pub logic-read : by_numbers (read_list logic_allowed 1 (codes "01xz"))
       ≡ accepted (to (codes "01xz") ∷ [])
   pub logic-words : logic_record (codes "01xz") ≡ record { a = 6; b = 3; width = 4 }
+  -- null, the empty text and an empty value; as marks they stand alone
+  pub marks-written : written_list (becomes null ∷ to [] ∷ same ∷ []) ≡ codes "#|$|"
+  pub marks-read : by_numbers (read_list text_allowed 3 (codes "#|$|"))
+      ≡ accepted (becomes null ∷ to [] ∷ same ∷ [])
+  pub marks-inside : by_numbers (read_list text_allowed 3 (codes "##|$a|a^"))
+      ≡ accepted (to (codes "##") ∷ to (codes "$a") ∷ to (codes "a^") ∷ [])
+  -- divided before anything is decoded, with digits of either case
+  pub divided-first : by_numbers (read_list text_allowed 2 (codes "a%7Cb|%7c"))
+      ≡ accepted (to (codes "a|b") ∷ to (codes "|") ∷ [])
+  pub marks-escaped : by_numbers (read_list text_allowed 3 (codes "%23|%24|%5E1"))
+      ≡ accepted (to (codes "#") ∷ to (codes "$") ∷ to (codes "^1") ∷ [])
+  -- a caret may cover the whole of the longest row
+  pub caret-12 : by_numbers (read_list text_allowed 12 (codes "^12"))
+      ≡ accepted (replicate 12 same)
   -- (v, same, null) joined with (same, w, same) is (v, w, null)
   pub joining : (v w : List ℕ)
       → join (to v ∷ same ∷ becomes null ∷ []) (same ∷ to w ∷ same ∷ [])

@@ -21,6 +21,18 @@ written = record {
   capital = refl;
   escapes = refl;
   values = refl;
+  room = refl;
+  room-written = refl;
+  no_room = refl;
+  no_room-touched = refl;
+  limit = refl;
+  limit-held = refl;
+  past-limit = refl;
+  past-limit-held = refl;
+  decoded = refl;
+  too-many = refl;
+  too-many-bad = refl;
+  line-end = refl;
   longest = refl;
 }
 
@@ -32,6 +44,17 @@ words = record {
   two-arguments = refl;
   three-arguments = refl;
   four-arguments = refl;
+  one-count = refl;
+  one-text = refl;
+  unsub = refl;
+  code-text = refl;
+  eos = refl;
+  subok = refl;
+  ov = refl;
+  conf = refl;
+  u = refl;
+  reqerr = refl;
+  conok = refl;
 }
 
 pub returns : goal.returns

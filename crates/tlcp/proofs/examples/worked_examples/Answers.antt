@@ -18,5 +18,11 @@ returns c = record {
   logic-fits = refl;
   logic-read = refl;
   logic-words = refl;
+  marks-written = refl;
+  marks-read = refl;
+  marks-inside = refl;
+  divided-first = refl;
+  marks-escaped = refl;
+  caret-12 = refl;
   joining = λ v w. refl;
 }
