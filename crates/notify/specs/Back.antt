@@ -34,7 +34,7 @@ abbrev pub laid : Saying → Message
 laid s = record {
   tag = s.tag;
   name = piece (word s.tag) 0;
-  args = arguments (length (word s.tag)) s.given
+  args = arguments (length (word s.tag)) s.given;
 }
 
 abbrev pub Bytes : List ℕ → Type 0
@@ -91,8 +91,8 @@ module _ {R : Type 0} (k : Kind R) where
   UpdateBack id delta fields =
       let d = changes_of k delta fields in
       Update id delta fields
-          → Reads (update_of k id delta fields)
-          × (read_list k.allowed fields (written_list d) ≡ Ok d)
+      → Reads (update_of k id delta fields)
+      × (read_list k.allowed fields (written_list d) ≡ Ok d)
 
   abbrev pub UpdateShort : ℕ → List (Change R) → ℕ → Type 0
   UpdateShort id delta fields =

@@ -41,12 +41,12 @@ module _ {R : Type 0} (k : Kind R) where
       let update = update_of id delta fields in
       let written = end_or at (line_text update) xs in
       cond (length delta == field_limit)
-          (cond (within update) (cond (covers fields) written (Err uncovered)) (Err beyond))
-          (Err memory_refusal)
+      (cond (within update) (cond (covers fields) written (Err uncovered)) (Err beyond))
+      (Err memory_refusal)
 
   abbrev pub update_placed : ℕ → List (Change R) → ℕ → ℕ → List ℕ → List ℕ
   update_placed id delta fields at xs =
       let update = update_of id delta fields in
       let written = placed_or at (line_text update) xs in
       cond (length delta == field_limit)
-          (cond (within update) (cond (covers fields) written xs) xs) xs
+      (cond (within update) (cond (covers fields) written xs) xs) xs

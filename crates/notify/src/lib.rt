@@ -3,8 +3,10 @@
 #![tactic(auto)]
 
 mod draft;
+mod examples;
 mod message;
 mod write;
 
+pub use examples::worked_lines;
 pub use message::Message;
 pub use write::{write_line, write_update};
