@@ -2,10 +2,14 @@
 use Rattle.std.proofs.Common.{◌≡◌, ◌≢◌, ℕ, List, [], ◌∷◌, Ok, subst, refl}
 use Rattle.row.specs.Limits.{field_limit}
 use Rattle.tlcp.specs.Limits.{id_limit}
-use Rattle.tlcp.specs.Lines.{Message, Sort, number, code, text, list, id as line_id, single, field_count, Argument, numbered, coded, worded, listed, Kept, Laid, none, last, more, Says, sorts, read_line}
+use Rattle.tlcp.specs.Lines.{Message, Sort, number, list, id as line_id, single, field_count}
+use Rattle.tlcp.specs.Lines.{Argument, numbered, coded, worded, listed, Kept, Laid, none, last}
+use Rattle.tlcp.specs.Lines.{more, Says, sorts, read_line}
 use Rattle.tlcp.specs.Parts.{Piece}
 use Rattle.tlcp.specs.declared.tag.Tag.{Tag}
-use Rattle.tlcp.specs.declared.tag.Tag.TheVariants.{U, Probe, Sync, Loop, Cons, Servname, Clientip, Reqok, Unsub, Conerr, End, Error, Eos, Subok, Ov, Conf, Reqerr, Conok}
+use Rattle.tlcp.specs.declared.tag.Tag.TheVariants.{U, Probe, Sync, Loop, Cons, Servname, Clientip}
+use Rattle.tlcp.specs.declared.tag.Tag.TheVariants.{Reqok, Unsub, Conerr, End, Error, Eos, Subok}
+use Rattle.tlcp.specs.declared.tag.Tag.TheVariants.{Ov, Conf, Reqerr, Conok}
 use Rattle.tlcp.proofs.Saying.{reads-said}
 use Rattle.tlcp.proofs.Unescaped.{reads-escapes}
 use Rattle.viewer.specs.Effects.{Effect, opens, closes, updates, nothing, effect_of}
@@ -18,13 +22,16 @@ AllKept [] (a ∷ args) = ⊥
 AllKept (k ∷ ks) [] = ⊥
 AllKept (k ∷ ks) (a ∷ args) = Kept k a × AllKept ks args
 
-laid-kept : {ks : List Sort} {at : ℕ} {args : List Argument} {s : List ℕ} → Laid ks at args s → AllKept ks args
+laid-kept :
+    {ks : List Sort} {at : ℕ} {args : List Argument} {s : List ℕ} → Laid ks at args s
+    → AllKept ks args
 laid-kept none = tt
 laid-kept (last kept is) = (kept, tt)
 laid-kept (more kept is plain laid) = (kept, laid-kept laid)
 
 -- a tag that asks nothing of a viewer
-idle-tag : (t : Tag) (args : List Argument) → t ≢ Subok → t ≢ Unsub → t ≢ U → effect_of t args ≡ nothing
+idle-tag :
+    (t : Tag) (args : List Argument) → t ≢ Subok → t ≢ Unsub → t ≢ U → effect_of t args ≡ nothing
 idle-tag U args a b c = absurd (c refl)
 idle-tag Probe args a b c = refl
 idle-tag Sync args a b c = refl
@@ -50,7 +57,9 @@ pub record Asked (line : List ℕ) (asked : Effect) : Type 0 where
   pub read : read_line line ≡ Ok message
   pub effect : effect_of message.tag message.args ≡ asked
 
-said-asks : (line : List ℕ) (m : Message) (asked : Effect) → Says line m → effect_of m.tag m.args ≡ asked → Asked line asked
+said-asks :
+    (line : List ℕ) (m : Message) (asked : Effect) → Says line m → effect_of m.tag m.args ≡ asked
+    → Asked line asked
 said-asks line m asked says is = record { message = m; read = (reads-said reads-escapes line m).1 says; effect = is }
 
 pub asks-read : (line : List ℕ) (asked : Effect) → Asks line asked → Asked line asked
@@ -59,7 +68,9 @@ asks-read line asked (unsub says) = said-asks line _ _ says refl
 asks-read line asked (update says) = said-asks line _ _ says refl
 asks-read line asked (other {m} says a b c) = said-asks line m nothing says (idle-tag m.tag m.args a b c)
 
-number-from : (low high : ℕ) (a : Argument) → Kept (number low high) a → (p : Piece) × (n : ℕ) × (a ≡ numbered p n)
+number-from :
+    (low high : ℕ) (a : Argument) → Kept (number low high) a → (p : Piece) × (n : ℕ)
+    × (a ≡ numbered p n)
 number-from low high (numbered p n) kept = (p, n, refl)
 number-from low high (coded p z) kept = absurd kept
 number-from low high (worded p) kept = absurd kept
@@ -71,12 +82,16 @@ list-from (coded p z) kept = absurd kept
 list-from (worded p) kept = absurd kept
 list-from (listed p) kept = (p, refl)
 
-one-from : (k : Sort) (args : List Argument) → AllKept (k ∷ []) args → (a : Argument) × (args ≡ a ∷ []) × Kept k a
+one-from :
+    (k : Sort) (args : List Argument) → AllKept (k ∷ []) args → (a : Argument) × (args ≡ a ∷ [])
+    × Kept k a
 one-from k [] kept = absurd kept
 one-from k (a ∷ []) kept = (a, refl, kept.0)
 one-from k (a ∷ b ∷ args) kept = absurd kept.1
 
-next-from : (k : Sort) (ks : List Sort) (args : List Argument) → AllKept (k ∷ ks) args → (a : Argument) × (others : List Argument) × (args ≡ a ∷ others) × Kept k a × AllKept ks others
+next-from :
+    (k : Sort) (ks : List Sort) (args : List Argument) → AllKept (k ∷ ks) args → (a : Argument)
+    × (others : List Argument) × (args ≡ a ∷ others) × Kept k a × AllKept ks others
 next-from k ks [] kept = absurd kept
 next-from k ks (a ∷ args) kept = (a, args, refl, kept.0, kept.1)
 
@@ -88,10 +103,13 @@ module _ (line : List ℕ) (name : Piece) (args : List Argument) where
   says-as : (t : Tag) (xs : List Argument) → SaysThis t args → args ≡ xs → SaysThis t xs
   says-as t xs says is = subst (SaysThis t) is says
 
-  idle : (t : Tag) → t ≢ Subok → t ≢ Unsub → t ≢ U → SaysThis t args → (asked : Effect) × Asks line asked
+  idle :
+      (t : Tag) → t ≢ Subok → t ≢ Unsub → t ≢ U → SaysThis t args → (asked : Effect)
+      × Asks line asked
   idle t a b c says = (nothing, other says a b c)
 
-  asks-by : (t : Tag) → SaysThis t args → AllKept (sorts t) args → (asked : Effect) × Asks line asked
+  asks-by :
+      (t : Tag) → SaysThis t args → AllKept (sorts t) args → (asked : Effect) × Asks line asked
   asks-by Subok says kept =
       let (a, xs, is, first, kept) = next-from line_id (single ∷ field_count ∷ []) args kept in
       let (b, ys, is', second, kept) = next-from single (field_count ∷ []) xs kept in

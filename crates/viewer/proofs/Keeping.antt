@@ -1,13 +1,17 @@
 -- Hearing keeps its laws.
-use Rattle.std.proofs.Common.{◌≡◌, ◌≢◌, ℕ, ◌+◌, ◌*◌, ◌<◌, ◌≤◌, Bool, true, false, ◌&&◌, List, [], ◌∷◌, length, get_or, Option, Some, None, Ok, Err, Result, is_some, subst, sym, ap, ◌∙◌, refl, arith, rules, drop, ⊎_elim, inl, inr}
+use Rattle.std.proofs.Common.{◌≡◌, ◌≢◌, ℕ, ◌+◌, ◌*◌, ◌<◌, ◌≤◌, Bool, true, false, List, length}
+use Rattle.std.proofs.Common.{Option, Some, None, Ok, Err, Result, is_some, subst, sym, ap, ◌∙◌}
+use Rattle.std.proofs.Common.{refl, arith, rules, drop, ⊎_elim, inl, inr}
 use Rattle.std.specs.List.{AllByRecursion}
 use Rattle.std.specs.Option.{option_map}
 use Rattle.std.specs.Prelude.{position, slice_set, IsOkAnd, IsSome, ◌⊎◌}
-use Rattle.std.proofs.lemmas.Bool.{cases_lt, cases_eq, eqb-true, eq-eqb, ne_eqb, and_parts, and_from, both_ways, false_from_ne_true}
-use Rattle.std.proofs.lemmas.List.{length-set, get_or-set_same, get_or-set_other, get_or-take, get_or-drop}
+use Rattle.std.proofs.lemmas.Bool.{cases_lt, eqb-true, eq-eqb, and_parts, and_from, both_ways}
+use Rattle.std.proofs.lemmas.Bool.{false_from_ne_true}
+use Rattle.std.proofs.lemmas.List.{length-set, get_or-set_same, get_or-set_other, get_or-take}
+use Rattle.std.proofs.lemmas.List.{get_or-drop}
 use Rattle.std.proofs.lemmas.List.Quantifiers.{position-Some}
 use Rattle.row.specs.Limits.{field_limit, tap_limit, cell_limit}
-use Rattle.row.specs.Rows.{Cell, Change, null, blank, change_cell, changed, row_at, with_row, over}
+use Rattle.row.specs.Rows.{Cell, Change, null, blank, change_cell, changed, row_at, with_row}
 use Rattle.row.specs.declared.fault.Refusal.{Refusal}
 use Rattle.tlcp.specs.Held.{filled}
 use Rattle.tlcp.specs.Lists.{Allowed, read_list}
@@ -16,15 +20,19 @@ use Rattle.tlcp.specs.Parts.{Piece}
 use Rattle.tlcp.proofs.Reading.{refused}
 use Rattle.tlcp.proofs.Spelling.{reads-spelled}
 use Rattle.viewer.specs.Effects.{Effect, opens, closes, updates, nothing}
-use Rattle.viewer.specs.Entries.{fits, fits_open, opened, closed, find_entry, find_open, with_count}
-use Rattle.viewer.specs.Laws.{Asks, Fits, First, NoneFits, HoldAllowed, Stays, Sets, Unchanged, KeepsLaws, entry_at, HearingLaws, LinesLaws, RowsApart}
-use Rattle.viewer.specs.Hearing.{View, unmoved, set_entry, change_row, change_by, update, hear_effect, hear_message, hear, null_cells, entries_after, cells_after, after_lines}
+use Rattle.viewer.specs.Entries.{fits, fits_open, opened, closed, find_open, with_count}
+use Rattle.viewer.specs.Laws.{Asks, Fits, First, NoneFits, HoldAllowed, Stays, Sets, Unchanged}
+use Rattle.viewer.specs.Laws.{KeepsLaws, entry_at, HearingLaws, RowsApart}
+use Rattle.viewer.specs.Hearing.{View, unmoved, set_entry, change_row, change_by, update}
+use Rattle.viewer.specs.Hearing.{hear_effect, hear_message, hear, null_cells}
 use Rattle.viewer.specs.declared.entry.Entry.{Entry}
 use Rattle.viewer.specs.declared.hear.Heard.{Heard}
 use Rattle.viewer.specs.declared.hear.Heard.TheVariants.{Taken, Passed}
 use Rattle.viewer.proofs.Asking.{asks-read, asks-one}
-use Rattle.viewer.proofs.Places.{length-over, length-with, row-with, row-others, length-row, position-cases}
-use Rattle.viewer.proofs.Values.{read-allowed, filled-allowed, changed-allowed, row-allowed, with-allowed}
+use Rattle.viewer.proofs.Places.{length-over, length-with, row-with, row-others, length-row}
+use Rattle.viewer.proofs.Places.{position-cases}
+use Rattle.viewer.proofs.Values.{read-allowed, filled-allowed, changed-allowed, row-allowed}
+use Rattle.viewer.proofs.Values.{with-allowed}
 
 same-from-ok : {X : Type 0} {x y : X} → ◌≡◌ {A = Result X Refusal} (Ok x) (Ok y) → x ≡ y
 same-from-ok e = cc
@@ -107,12 +115,14 @@ module _ (asked : Effect) (es : List Entry) where
       (λ (h : (k : ℕ) × (found ≡ Some k) × First asked es k). absurd (none h.0 (h.2).inside (h.2).here))
       finds
 
-module _ (es : List Entry) (cs : List Cell) (eight : length es ≡ tap_limit) (all : length cs ≡ cell_limit) where
+module _ (es : List Entry) (cs : List Cell) (eight : length es ≡ tap_limit)
+    (all : length cs ≡ cell_limit) where
   room : (i : ℕ) → i < length es → field_limit * i + field_limit ≤ length cs
   room i inside = omega arith
 
   -- one entry and its row are set
-  module _ (i : ℕ) (inside : i < length es) (r : List Cell) (whole : length r ≡ field_limit) (d : List Change) where
+  module _ (i : ℕ) (inside : i < length es) (r : List Cell) (whole : length r ≡ field_limit)
+      (d : List Change) where
     sets-entry : (e : Entry) → Sets es cs i e r d (touching (slice_set es i e) i r cs d)
     sets-entry e = record {
       entry = get_or-set_same es i e closed inside;
@@ -131,7 +141,8 @@ module _ (es : List Entry) (cs : List Cell) (eight : length es ≡ tap_limit) (a
       others = λ j ne. (refl, row-others i r cs whole (room i inside) j ne);
     }
 
-  length-row-changed : (i : ℕ) (d : List Change) → i < length es → length (changed (row_at i cs) d) ≡ field_limit
+  length-row-changed :
+      (i : ℕ) (d : List Change) → i < length es → length (changed (row_at i cs) d) ≡ field_limit
   length-row-changed i d inside = length-over change_cell (row_at i cs) d ∙ length-row i cs (room i inside)
 
   module _ (allowed : List ℕ → Bool) (line : List ℕ) where
@@ -147,22 +158,34 @@ module _ (es : List Entry) (cs : List Cell) (eight : length es ≡ tap_limit) (a
         let h = asks-read line asked a in
         ap (hear_message es cs allowed) h.read ∙ ap (hear_effect es cs allowed) h.effect
 
-    set-heard : (e : Entry) (i : ℕ) (asked : Effect) → Asks line asked → hear_effect es cs allowed asked ≡ Ok (set_entry es cs e (found asked es)) → First asked es i → IsOkAnd heard (Sets es cs i e null_cells blank)
+    set-heard :
+        (e : Entry) (i : ℕ) (asked : Effect) → Asks line asked
+        → hear_effect es cs allowed asked ≡ Ok (set_entry es cs e (found asked es))
+        → First asked es i → IsOkAnd heard (Sets es cs i e null_cells blank)
     set-heard e i asked a is first =
         ok-and (set_entry es cs e (Some i)) (Sets es cs i e null_cells blank)
         (asks-heard asked a ∙ is ∙ ap (λ o. Ok (set_entry es cs e o)) (first-found asked es i first))
         (sets-entry i first.inside null_cells refl blank e)
 
     -- the open entry that an update finds
-    found-open : (id n i : ℕ) (list : Piece) → First (updates id list) es i → (entry_at es i).fields ≡ Some n → find_open id es ≡ Some (i, n)
+    found-open :
+        (id n i : ℕ) (list : Piece) → First (updates id list) es i → (entry_at es i).fields ≡ Some n
+        → find_open id es ≡ Some (i, n)
     found-open id n i list first counts =
         ap (with_count es) (first-found (updates id list) es i first) ∙ ap (option_map (λ (m : ℕ). (i, m))) counts
 
-    update-heard : (id n i : ℕ) (list : Piece) → Asks line (updates id list) → First (updates id list) es i → (entry_at es i).fields ≡ Some n → heard ≡ change_by es cs list.at i (read_list allowed n list.text)
+    update-heard :
+        (id n i : ℕ) (list : Piece) → Asks line (updates id list) → First (updates id list) es i
+        → (entry_at es i).fields ≡ Some n
+        → heard ≡ change_by es cs list.at i (read_list allowed n list.text)
     update-heard id n i list a first counts =
         asks-heard (updates id list) a ∙ ap (update es cs allowed list) (found-open id n i list first counts)
 
-    changes-heard : (id n i : ℕ) (list : Piece) (d : List Change) → Asks line (updates id list) → First (updates id list) es i → (entry_at es i).fields ≡ Some n → read_list allowed n list.text ≡ Ok d → IsOkAnd heard (Sets es cs i (entry_at es i) (changed (row_at i cs) (filled d)) (filled d))
+    changes-heard :
+        (id n i : ℕ) (list : Piece) (d : List Change) → Asks line (updates id list)
+        → First (updates id list) es i → (entry_at es i).fields ≡ Some n
+        → read_list allowed n list.text ≡ Ok d
+        → IsOkAnd heard (Sets es cs i (entry_at es i) (changed (row_at i cs) (filled d)) (filled d))
     changes-heard id n i list d a first counts read =
         let r = changed (row_at i cs) (filled d) in
         ok-and (change_row es cs i (filled d)) (Sets es cs i (entry_at es i) r (filled d))
@@ -174,7 +197,8 @@ module _ (es : List Entry) (cs : List Cell) (eight : length es ≡ tap_limit) (a
       passed : asked ≢ nothing → NoneFits asked es → v ≡ unmoved es cs Passed → Done asked v
       idle : asked ≡ nothing → v ≡ unmoved es cs Taken → Done asked v
       sets :
-          {es' : List Entry} {i : ℕ} {e : Entry} {r : List Cell} {d : List Change} → First asked es i → length es' ≡ length es → length r ≡ field_limit
+          {es' :
+          List Entry} {i : ℕ} {e : Entry} {r : List Cell} {d : List Change} → First asked es i → length es' ≡ length es → length r ≡ field_limit
           → (HoldAllowed allowed cs → HoldAllowed allowed r) → AllByRecursion (Allowed allowed) d
           → Sets es cs i e r d (touching es' i r cs d) → v ≡ touching es' i r cs d → Done asked v
 
@@ -197,12 +221,18 @@ module _ (es : List Entry) (cs : List Cell) (eight : length es ≡ tap_limit) (a
     blank-allowed : AllByRecursion (Allowed allowed) blank
     blank-allowed = search rules
 
-    set-done : (asked : Effect) (e : Entry) (v : View) → asked ≢ nothing → ◌≡◌ {A = Result View Refusal} (Ok (set_entry es cs e (found asked es))) (Ok v) → Done asked v
+    set-done :
+        (asked : Effect) (e : Entry) (v : View) → asked ≢ nothing
+        → ◌≡◌ {A = Result View Refusal} (Ok (set_entry es cs e (found asked es))) (Ok v)
+        → Done asked v
     set-done asked e v some =
         by-finding asked (λ o. Ok (set_entry es cs e o)) v some refl
         (λ i first is. sets first (length-set es i e) refl (λ _. null-allowed) blank-allowed (sets-entry i first.inside null_cells refl blank e) (same-from-ok (sym is)))
 
-    change-done : (asked : Effect) (i at n : ℕ) (s : List ℕ) (r : Result (List Change) Refusal) (v : View) → First asked es i → read_list allowed n s ≡ r → change_by es cs at i r ≡ Ok v → Done asked v
+    change-done :
+        (asked : Effect) (i at n : ℕ) (s : List ℕ) (r : Result (List Change) Refusal) (v : View)
+        → First asked es i → read_list allowed n s ≡ r → change_by es cs at i r ≡ Ok v
+        → Done asked v
     change-done asked i at n s (Err r) v first read is = refused is
     change-done asked i at n s (Ok d) v first read is =
         let whole = length-row-changed i (filled d) first.inside in
@@ -221,7 +251,9 @@ module _ (es : List Entry) (cs : List Cell) (eight : length es ≡ tap_limit) (a
         is
     done nothing v is = idle refl (same-from-ok (sym is))
 
-    none-heard : (asked : Effect) → asked ≢ nothing → NoneFits asked es → hear_effect es cs allowed asked ≡ Ok (unmoved es cs Passed)
+    none-heard :
+        (asked : Effect) → asked ≢ nothing → NoneFits asked es
+        → hear_effect es cs allowed asked ≡ Ok (unmoved es cs Passed)
     none-heard (opens id n) some none = ap (λ o. Ok (set_entry es cs (opened id n) o)) (none-found (opens id n) es none)
     none-heard (closes id) some none = ap (λ o. Ok (set_entry es cs closed o)) (none-found (closes id) es none)
     none-heard (updates id list) some none = ap (λ o. update es cs allowed list (with_count es o)) (none-found (updates id list) es none)
@@ -234,7 +266,9 @@ module _ (es : List Entry) (cs : List Cell) (eight : length es ≡ tap_limit) (a
     heard-done : (v : View) → heard ≡ Ok v → (asked : Effect) × Done asked v
     heard-done v = by (read_line line) refl
       where
-        by : (r : Result Message Refusal) → read_line line ≡ r → hear_message es cs allowed r ≡ Ok v → (asked : Effect) × Done asked v
+        by :
+            (r : Result Message Refusal) → read_line line ≡ r → hear_message es cs allowed r ≡ Ok v
+            → (asked : Effect) × Done asked v
         by (Ok m) read is = let (asked, a) = asks-one line m read in (asked, asks-done asked v a (ap (hear_message es cs allowed) read ∙ is))
         by (Err r) read is = refused is
 
@@ -248,27 +282,36 @@ module _ (es : List Entry) (cs : List Cell) (eight : length es ≡ tap_limit) (a
     by-doing P asked v a b f (idle rests is) = subst P (sym is) b
     by-doing P asked v a b f (sets {es' = es'} {i = i} {e = e} {r = r} {d = d} first long whole hold brought s is) = subst P (sym is) (f es' i e r d first long whole hold brought s)
 
-    passed-done : (asked : Effect) (v : View) → Done asked v → v.answer ≡ Passed → (asked ≢ nothing) × NoneFits asked es
+    passed-done :
+        (asked : Effect) (v : View) → Done asked v → v.answer ≡ Passed → (asked ≢ nothing)
+        × NoneFits asked es
     passed-done asked v (passed some none is) e = (some, none)
     passed-done asked v (idle rests is) e = let taken = ap (λ (w : View). w.answer) is in absurd cc
     passed-done asked v (sets _ _ _ _ _ _ is) e = let taken = ap (λ (w : View). w.answer) is in absurd cc
 
-    own-done : (asked : Effect) (v : View) (j : ℕ) → (Fits asked (entry_at es j) → ⊥) → Done asked v → Stays es cs j v
+    own-done :
+        (asked : Effect) (v : View) (j : ℕ) → (Fits asked (entry_at es j) → ⊥) → Done asked v
+        → Stays es cs j v
     own-done asked v j not =
         by-doing (Stays es cs j) asked v (refl, refl) (refl, refl)
         (λ es' i e r d first _ _ _ _ s. s.others j (λ is. not (subst (λ k. Fits asked (entry_at es k)) (sym is) first.here)))
 
-    one-done : (asked : Effect) (v : View) → Done asked v → (i : ℕ) × ((j : ℕ) → j ≢ i → Stays es cs j v)
+    one-done :
+        (asked : Effect) (v : View) → Done asked v → (i : ℕ) × ((j : ℕ) → j ≢ i → Stays es cs j v)
     one-done asked v =
         by-doing (λ w. (i : ℕ) × ((j : ℕ) → j ≢ i → Stays es cs j w)) asked v (0, λ j ne. (refl, refl)) (0, λ j ne. (refl, refl))
         (λ es' i e r d _ _ _ _ _ s. (i, s.others))
 
-    lengths-done : (asked : Effect) (v : View) → Done asked v → (length v.entries ≡ length es) × (length v.cells ≡ length cs)
+    lengths-done :
+        (asked : Effect) (v : View) → Done asked v → (length v.entries ≡ length es)
+        × (length v.cells ≡ length cs)
     lengths-done asked v =
         by-doing (λ w. (length w.entries ≡ length es) × (length w.cells ≡ length cs)) asked v (refl, refl) (refl, refl)
         (λ es' i e r d first long whole _ _ _. (long, length-with i r cs whole (room i first.inside)))
 
-    values-done : (asked : Effect) (v : View) → HoldAllowed allowed cs → Done asked v → HoldAllowed allowed v.cells × AllByRecursion (Allowed allowed) v.brought
+    values-done :
+        (asked : Effect) (v : View) → HoldAllowed allowed cs → Done asked v
+        → HoldAllowed allowed v.cells × AllByRecursion (Allowed allowed) v.brought
     values-done asked v all =
         by-doing (λ w. HoldAllowed allowed w.cells × AllByRecursion (Allowed allowed) w.brought) asked v (all, blank-allowed) (all, blank-allowed)
         (λ es' i e r d _ _ _ hold brought _. (with-allowed allowed i r cs all (hold all), brought))

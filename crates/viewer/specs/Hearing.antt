@@ -1,9 +1,11 @@
 -- What a viewer makes of a line: by the texts of its cells and changes, and so in memory.
-use Rattle.std.specs.Prelude.{◌≡◌, ℕ, Bool, true, cond, ◌&&◌, List, map, length, fold, replicate, Some, None, Ok, Err, Option, Result, ◌==◌, slice_set}
+use Rattle.std.specs.Prelude.{◌≡◌, ℕ, Bool, cond, ◌&&◌, List, map, length, fold, replicate, Some}
+use Rattle.std.specs.Prelude.{None, Ok, Err, Option, Result, ◌==◌, slice_set}
 use Rattle.row.specs.Faults.{moved}
 use Rattle.row.specs.Kinds.{Kind}
 use Rattle.row.specs.Limits.{field_limit, cell_limit}
-use Rattle.row.specs.Records.{cell_of, cell_record, change_of, change_record, canonical_cell, memory_refusal}
+use Rattle.row.specs.Records.{cell_of, cell_record, change_of, change_record, canonical_cell}
+use Rattle.row.specs.Records.{memory_refusal}
 use Rattle.row.specs.Rows.{Cell, Change, null, blank, changed, row_at, with_row}
 use Rattle.row.specs.declared.change.Cell as cells
 use Rattle.row.specs.declared.change.Change as changes
@@ -127,7 +129,8 @@ pub record Outcome (R : Type 0) : Type 0 where
   pub answer : Result Heard Refusal
 
 abbrev pub outcome :
-    {R : Type 0} → List Entry → List (cells.Cell R) → List (changes.Change R) → Result Heard Refusal → Outcome R
+    {R :
+    Type 0} → List Entry → List (cells.Cell R) → List (changes.Change R) → Result Heard Refusal → Outcome R
 outcome es cs d a = record { entries = es; cells = cs; delta = d; answer = a }
 
 module _ {R : Type 0} (k : Kind R) where

@@ -1,6 +1,7 @@
 -- Laws of hearing, in the subject's words: which entry and which row a line changes, and how. They are stated of
 -- texts, for every kind of value, every line and every viewer of eight entries and their cells.
-use Rattle.std.specs.Prelude.{◌≡◌, ◌≢◌, ℕ, ◌+◌, ◌*◌, ◌<◌, ◌≤◌, Bool, List, [], ◌∷◌, length, get_or, Some, None, Ok, Err, Result, IsOkAnd, IsSome}
+use Rattle.std.specs.Prelude.{◌≡◌, ◌≢◌, ℕ, ◌+◌, ◌*◌, ◌<◌, ◌≤◌, Bool, List, [], ◌∷◌, length, get_or}
+use Rattle.std.specs.Prelude.{Some, None, Ok, Err, Result, IsOkAnd, IsSome}
 use Rattle.std.specs.List.{AllByRecursion}
 use Rattle.row.specs.Faults.{moved}
 use Rattle.row.specs.Limits.{field_limit, tap_limit, cell_limit}
@@ -151,6 +152,8 @@ HearingLaws =
 
 -- lines are heard one after another, and a refused one changes nothing
 pub record LinesLaws : Type 0 where
+  pub none :
+      (allowed : List ℕ → Bool) (v : List Entry × List Cell) → after_lines allowed v [] ≡ v
   pub accepted :
       (allowed : List ℕ → Bool) (es : List Entry) (cs : List Cell) (line : List ℕ)
       (lines : List (List ℕ)) (v : View) → hear allowed es cs line ≡ Ok v
