@@ -60,13 +60,18 @@ pub record Asked (line : List ℕ) (asked : Effect) : Type 0 where
 said-asks :
     (line : List ℕ) (m : Message) (asked : Effect) → Says line m → effect_of m.tag m.args ≡ asked
     → Asked line asked
-said-asks line m asked says is = record { message = m; read = (reads-said reads-escapes line m).1 says; effect = is }
+said-asks line m asked says is = record {
+  message = m;
+  read = (reads-said reads-escapes line m).1 says;
+  effect = is;
+}
 
 pub asks-read : (line : List ℕ) (asked : Effect) → Asks line asked → Asked line asked
 asks-read line asked (subok says) = said-asks line _ _ says refl
 asks-read line asked (unsub says) = said-asks line _ _ says refl
 asks-read line asked (update says) = said-asks line _ _ says refl
-asks-read line asked (other {m} says a b c) = said-asks line m nothing says (idle-tag m.tag m.args a b c)
+asks-read line asked (other {m} says a b c) =
+    said-asks line m nothing says (idle-tag m.tag m.args a b c)
 
 number-from :
     (low high : ℕ) (a : Argument) → Kept (number low high) a → (p : Piece) × (n : ℕ)
@@ -117,7 +122,8 @@ module _ (line : List ℕ) (name : Piece) (args : List Argument) where
       let (p, id, a-is) = number-from 1 id_limit a first in
       let (q, items, b-is) = number-from 1 1 b second in
       let (r, n, c-is) = number-from 1 field_limit c third in
-      (opens id n, subok (says-as Subok (numbered p id ∷ numbered q items ∷ numbered r n ∷ []) says (cc)))
+      let these = numbered p id ∷ numbered q items ∷ numbered r n ∷ [] in
+      (opens id n, subok (says-as Subok these says (cc)))
   asks-by Unsub says kept =
       let (a, is, first) = one-from line_id args kept in
       let (p, id, a-is) = number-from 1 id_limit a first in

@@ -128,10 +128,10 @@ pub record Outcome (R : Type 0) : Type 0 where
   pub delta : List (changes.Change R)
   pub answer : Result Heard Refusal
 
-abbrev pub outcome :
-    {R :
-    Type 0} → List Entry → List (cells.Cell R) → List (changes.Change R) → Result Heard Refusal → Outcome R
-outcome es cs d a = record { entries = es; cells = cs; delta = d; answer = a }
+module _ {R : Type 0} where
+  abbrev pub outcome :
+      List Entry → List (cells.Cell R) → List (changes.Change R) → Result Heard Refusal → Outcome R
+  outcome es cs d a = record { entries = es; cells = cs; delta = d; answer = a }
 
 module _ {R : Type 0} (k : Kind R) where
   -- the records of cells, in place of the row with index i
@@ -146,27 +146,28 @@ module _ {R : Type 0} (k : Kind R) where
   -- how memory holds what a line leaves
   abbrev pub in_memory : List Entry → List (cells.Cell R) → Result View Refusal → Outcome R
   in_memory es cs (Ok v) =
-      outcome v.entries (put_touched v.touched v.cells cs) (map (change_record k) v.brought) (Ok v.answer)
+      outcome v.entries (put_touched v.touched v.cells cs) (map (change_record k) v.brought)
+      (Ok v.answer)
   in_memory es cs (Err r) = outcome es cs (map (change_record k) blank) (Err r)
 
   -- the memory is a row of cells for each tap, and the changes of one row
   abbrev pub fitting : List (cells.Cell R) → List (changes.Change R) → Bool
   fitting cs delta = length cs == cell_limit && length delta == field_limit
 
-  -- what a line makes of memory: what it makes of the texts that the records mean, if the memory fits
+  -- what a line makes of the texts that memory means
+  abbrev pub told : List Entry → List (cells.Cell R) → List ℕ → Result View Refusal
+  told es cs line = hear k.allowed es (map (cell_of k) cs) line
+
+  -- what a line makes of memory, if that fits
   abbrev pub heard :
       List Entry → List (cells.Cell R) → List (changes.Change R) → List ℕ → Outcome R
   heard es cs delta line =
-      cond (fitting cs delta)
-      (in_memory es cs (hear k.allowed es (map (cell_of k) cs) line))
+      cond (fitting cs delta) (in_memory es cs (told es cs line))
       (outcome es cs delta (Err memory_refusal))
 
-  -- what memory held in texts, and what a line makes of these
-  abbrev told : List Entry → List (cells.Cell R) → List ℕ → Result View Refusal
-  told es cs line = hear k.allowed es (map (cell_of k) cs) line
-
   -- memory means what hearing makes of the texts that it meant
-  pub record MeansHeard (es : List Entry) (cs : List (cells.Cell R)) (line : List ℕ) (o : Outcome R) : Type 0 where
+  pub record MeansHeard
+      (es : List Entry) (cs : List (cells.Cell R)) (line : List ℕ) (o : Outcome R) : Type 0 where
     pub entries : o.entries ≡ entries_after es (told es cs line)
     pub cells : map (cell_of k) o.cells ≡ cells_after (map (cell_of k) cs) (told es cs line)
     pub delta : map (change_of k) o.delta ≡ brought_by (told es cs line)

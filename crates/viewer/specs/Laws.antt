@@ -1,5 +1,5 @@
--- Laws of hearing, in the subject's words: which entry and which row a line changes, and how. They are stated of
--- texts, for every kind of value, every line and every viewer of eight entries and their cells.
+-- Laws of hearing, in the subject's words: which entry and which row a line changes, and how. They
+-- are stated of texts, for every kind of value, every line and every viewer of eight entries.
 use Rattle.std.specs.Prelude.{◌≡◌, ◌≢◌, ℕ, ◌+◌, ◌*◌, ◌<◌, ◌≤◌, Bool, List, [], ◌∷◌, length, get_or}
 use Rattle.std.specs.Prelude.{Some, None, Ok, Err, Result, IsOkAnd, IsSome}
 use Rattle.std.specs.List.{AllByRecursion}
@@ -52,7 +52,7 @@ AsksOne =
 abbrev pub entry_at : List Entry → ℕ → Entry
 entry_at es i = get_or es i closed
 
--- an entry that a line speaks to: for SUBOK and UNSUB one with its ID, for U an open one with its ID
+-- an entry that a line speaks to: for SUBOK and UNSUB one with its ID, for U an open one with it
 abbrev pub Fits : Effect → Entry → Type 0
 Fits (opens id n) e = e.id ≡ id
 Fits (closes id) e = e.id ≡ id
@@ -77,7 +77,8 @@ module _ (es : List Entry) (cs : List Cell) where
   abbrev pub Stays : ℕ → View → Type 0
   Stays j v = (entry_at v.entries j ≡ entry_at es j) × (row_at j v.cells ≡ row_at j cs)
 
-  -- the entry with index i is e now, its row is r, and the line brought the delta d; all else is as it was
+  -- the entry with index i is e now, its row is r, and the line brought the delta d; the other
+  -- entries and rows are as they were
   pub record Sets (i : ℕ) (e : Entry) (r : List Cell) (d : List Change) (v : View) : Type 0 where
     pub entry : entry_at v.entries i ≡ e
     pub row : row_at i v.cells ≡ r

@@ -6,7 +6,7 @@ ghost use Rattle.row.specs.Records.{cell_of};
 ghost use Rattle.tlcp.specs.Said.{arguments_in, piece_in, tag_in};
 ghost use Rattle.viewer.specs.Effects.{effect_of};
 ghost use Rattle.viewer.specs.Entries.{find_entry, find_open, fits, waiting};
-ghost use Rattle.viewer.specs.Hearing.{set_entry, update, hear_effect, hear, heard, in_memory};
+ghost use Rattle.viewer.specs.Hearing.{set_entry, update, hear_effect, told, heard, in_memory};
 ghost use Rattle.viewer.specs.Hearing.{outcome, fitting, MeansHeard, StaysCanonical};
 
 use crate::entry::{Entry, find_entry, find_open};
@@ -144,7 +144,7 @@ impl Viewer {
         requires { (length cells.old ≡ cell_limit) × (length delta.old ≡ field_limit) }
         ensures { outcome self.new.entries cells.new delta.new result ≡
             in_memory R.kind self.old.entries cells.old
-            (hear R.kind.allowed self.old.entries (map (cell_of R.kind) cells.old) line.now) }
+            (told R.kind self.old.entries cells.old line.now) }
     {
         match read_line(line) {
             Ok(line) => self.obey(line.says, cells, delta),

@@ -1,7 +1,6 @@
-use Rattle.std.proofs.Common.{◌≡◌, length, map, arith, rules}
+use Rattle.std.proofs.Common.{◌≡◌, length, arith, rules}
 use Rattle.row.specs.Limits.{tap_limit, cell_limit}
-use Rattle.row.specs.Records.{cell_of}
-use Rattle.viewer.specs.Hearing.{hear, outcome}
+use Rattle.viewer.specs.Hearing.{told, outcome}
 use Rattle.viewer.proofs.Records.{means-heard, stays-canonical, refused-stays}
 use Rattle.viewer.proofs.hear.Viewer.hear.Goals as goal
 
@@ -32,4 +31,4 @@ returns-clause-refused g c =
     let cs = c.args.cells.now in
     let h = c.hear_line in
     let o = outcome h.new.self.entries h.new.cells h.new.delta h.result in
-    refused-stays k es cs (hear k.allowed es (map (cell_of k) cs) c.args.line.now) o h.ensures
+    refused-stays k es cs (told k es cs c.args.line.now) o h.ensures

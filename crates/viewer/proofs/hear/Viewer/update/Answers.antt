@@ -13,6 +13,6 @@ returns g c =
     let ok : c.read_list.result ≡ Ok tt = search rules in
     let found : find_open c.args.id c.args.self.now.entries ≡ Some (i, n) = search rules in
     let list = piece_in c.args.values in
-    updated g.R.Value.kind g.met.R.Value.lawful _ _ list i n _ c.args.delta.now _ _ c.read_list.result
-    c.requires.0 c.requires.1 inside found ok
+    updated g.R.Value.kind g.met.R.Value.lawful _ _ list i n _ c.args.delta.now _ _
+    c.read_list.result c.requires.0 c.requires.1 inside found ok
     c.read_list.ensures.answer c.read_list.ensures.changes c.update_row.ensures
