@@ -10,6 +10,7 @@ use Rattle.std.proofs.lemmas.List.{get_or-drop}
 use Rattle.row.specs.Limits.{field_limit, tap_limit, cell_limit}
 use Rattle.row.specs.Rows.{Cell, Change, null, blank, change_cell, changed, row_at, with_row}
 use Rattle.row.specs.declared.fault.Refusal.{Refusal}
+use Rattle.row.proofs.Joining.{length-over}
 use Rattle.tlcp.specs.Held.{filled}
 use Rattle.tlcp.specs.Lines.{Message, read_line}
 use Rattle.tlcp.specs.Lists.{Allowed, read_list}
@@ -28,7 +29,7 @@ use Rattle.viewer.specs.declared.hear.Heard.TheVariants.{Taken, Passed}
 use Rattle.viewer.proofs.Asking.{asks-read, asks-one}
 use Rattle.viewer.proofs.Finding.{Finds, none, one, found, finds, first-found, none-found}
 use Rattle.viewer.proofs.Finding.{true-some}
-use Rattle.viewer.proofs.Places.{length-over, length-with, row-with, row-others, length-row}
+use Rattle.viewer.proofs.Places.{length-with, row-with, row-others, length-row}
 use Rattle.viewer.proofs.Values.{read-allowed, filled-allowed, changed-allowed, row-allowed}
 use Rattle.viewer.proofs.Values.{with-allowed}
 

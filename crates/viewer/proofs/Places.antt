@@ -1,13 +1,13 @@
 -- A row among those of all taps.
-use Rattle.std.proofs.Common.{◌≡◌, ◌≢◌, ℕ, ◌+◌, ◌-◌, ◌*◌, ◌≤◌, ◌<◌, List, [], ◌∷◌, ◌++◌, length}
+use Rattle.std.proofs.Common.{◌≡◌, ◌≢◌, ℕ, ◌+◌, ◌-◌, ◌*◌, ◌≤◌, ◌<◌, List, ◌++◌, length}
 use Rattle.std.proofs.Common.{map}
-use Rattle.std.proofs.Common.{take, drop, refl, sym, ap, ◌∙◌, append_assoc, arith, ⊎_elim}
+use Rattle.std.proofs.Common.{take, drop, sym, ap, ◌∙◌, append_assoc, arith, ⊎_elim}
 use Rattle.std.proofs.lemmas.Bool.{cases_lt}
 use Rattle.std.proofs.lemmas.List.{length-append, length-take-le, length-drop, take_at, drop_at}
 use Rattle.std.proofs.lemmas.List.{drop-append-le, take-append-le, drop-take, take-take, drop-drop}
 use Rattle.std.proofs.lemmas.List.{take-map, drop-map, map-append}
 use Rattle.row.specs.Limits.{field_limit}
-use Rattle.row.specs.Rows.{over, row_at, with_row}
+use Rattle.row.specs.Rows.{row_at, with_row}
 
 module _ {X : Type 0} (i : ℕ) (r cs : List X) (whole : length r ≡ field_limit)
     (inside : field_limit * i + field_limit ≤ length cs) where
@@ -75,12 +75,6 @@ pub length-row :
 length-row i cs inside =
     let rest = drop (field_limit * i) cs in
     length-take-le field_limit rest (omega (arith, length-drop (field_limit * i) cs))
-
-pub length-over :
-    {X Y : Type 0} (f : X → Y → X) (xs : List X) (ys : List Y) → length (over f xs ys) ≡ length xs
-length-over f [] ys = refl
-length-over f (x ∷ xs) [] = refl
-length-over f (x ∷ xs) (y ∷ ys) = omega (arith, length-over f xs ys)
 
 pub map-row :
     {X Y : Type 0} (f : X → Y) (i : ℕ) (cs : List X) → map f (row_at i cs) ≡ row_at i (map f cs)

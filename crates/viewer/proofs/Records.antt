@@ -15,6 +15,7 @@ use Rattle.row.specs.Rows.{with_row}
 use Rattle.row.specs.declared.change.Cell as cells
 use Rattle.row.specs.declared.change.Change as changes
 use Rattle.row.specs.declared.fault.Refusal.{Refusal}
+use Rattle.row.proofs.Joining.{length-over}
 use Rattle.tlcp.specs.Held.{answer_of, filled, held_delta}
 use Rattle.tlcp.specs.Lists.{Allowed, read_list}
 use Rattle.tlcp.specs.Parts.{Piece}
@@ -27,7 +28,7 @@ use Rattle.viewer.specs.declared.entry.Entry.{Entry}
 use Rattle.viewer.specs.declared.hear.Heard.TheVariants.{Taken}
 use Rattle.viewer.proofs.Values.{read-allowed, filled-allowed, row-allowed}
 use Rattle.viewer.proofs.Keeping.{hearing-laws, touched-cells, with_touched}
-use Rattle.viewer.proofs.Places.{length-over, length-row, map-row, map-with, row-with}
+use Rattle.viewer.proofs.Places.{length-row, map-row, map-with, row-with}
 
 module _ {R : Type 0} (k : Kind R) where
   module _ (law : Lawful k) where

@@ -5,7 +5,8 @@ use Rattle.std.specs.Prelude.{Some, None, Ok, Err, Result, IsOkAnd, IsSome}
 use Rattle.std.specs.List.{AllByRecursion}
 use Rattle.row.specs.Faults.{moved}
 use Rattle.row.specs.Limits.{field_limit, tap_limit, cell_limit}
-use Rattle.row.specs.Rows.{Cell, Change, null, becomes, blank, changed, row_at, with_row}
+use Rattle.row.specs.RowLaws.{cell_at}
+use Rattle.row.specs.Rows.{Cell, Change, becomes, blank, changed, row_at, with_row}
 use Rattle.row.specs.declared.fault.Refusal.{Refusal}
 use Rattle.tlcp.specs.Held.{filled}
 use Rattle.tlcp.specs.Lines.{Argument, Message, numbered, listed, read_line, Says}
@@ -169,7 +170,7 @@ pub record RowsApart : Type 0 where
   -- the field f of the row with index i, both counted from 0, is the cell 12 * i + f
   pub place :
       (cs : List Cell) (i f : ℕ) → f < field_limit
-      → get_or (row_at i cs) f null ≡ get_or cs (field_limit * i + f) null
+      → cell_at (row_at i cs) f ≡ cell_at cs (field_limit * i + f)
   -- no other field of any row is that cell
   pub apart :
       (i j f g : ℕ) → f < field_limit → g < field_limit
