@@ -1,6 +1,7 @@
 -- Hearing keeps its laws.
 use Rattle.std.proofs.Common.{◌≡◌, ◌≢◌, ℕ, ◌+◌, ◌*◌, ◌<◌, ◌≤◌, Bool, List, length, drop, Option}
 use Rattle.std.proofs.Common.{Some, None}
+use Rattle.std.proofs.Common.{zero, suc, [], ◌∷◌, ◌++◌, ◌-◌, replicate}
 use Rattle.std.proofs.Common.{Ok, Err, Result, subst, sym, ap, ◌∙◌, refl, arith, rules}
 use Rattle.std.specs.List.{AllByRecursion}
 use Rattle.std.specs.Option.{option_map}
@@ -8,7 +9,7 @@ use Rattle.std.specs.Prelude.{slice_set, IsOkAnd}
 use Rattle.std.proofs.lemmas.List.{length-set, get_or-set_same, get_or-set_other, get_or-take}
 use Rattle.std.proofs.lemmas.List.{get_or-drop}
 use Rattle.row.specs.Limits.{field_limit, tap_limit, cell_limit}
-use Rattle.row.specs.Rows.{Cell, Change, null, blank, change_cell, changed, row_at, with_row}
+use Rattle.row.specs.Rows.{Cell, Change, null, same, blank, change_cell, changed, row_at, with_row}
 use Rattle.row.specs.declared.fault.Refusal.{Refusal}
 use Rattle.row.proofs.Joining.{length-over}
 use Rattle.tlcp.specs.Held.{filled}
@@ -39,6 +40,19 @@ same-from-ok e = cc
 unmoved-stays :
     {es : List Entry} {cs : List Cell} {a : Heard} → Unchanged es cs a (unmoved es cs a)
 unmoved-stays = record { entries = refl; cells = refl; brought = refl; answer = refl }
+
+-- same behind a delta changes nothing
+by-sames : (row : List Cell) (n : ℕ) → changed row (replicate n same) ≡ row
+by-sames [] n = refl
+by-sames (c ∷ row) zero = refl
+by-sames (c ∷ row) (suc n) = ap (λ l. c ∷ l) (by-sames row n)
+
+by-filled :
+    (row : List Cell) (d : List Change) (n : ℕ)
+    → changed row (d ++ replicate n same) ≡ changed row d
+by-filled [] d n = refl
+by-filled (c ∷ row) [] n = by-sames (c ∷ row) n
+by-filled (c ∷ row) (e ∷ d) n = ap (λ l. change_cell c e ∷ l) (by-filled row d n)
 
 -- a viewer of which one row was touched
 abbrev touching : List Entry → ℕ → List Cell → List Cell → List Change → View
@@ -133,12 +147,14 @@ module _ (es : List Entry) (cs : List Cell) (eight : length es ≡ tap_limit)
         (id n i : ℕ) (list : Piece) (d : List Change) → Asks line (updates id list)
         → First (updates id list) es i → (entry_at es i).fields ≡ Some n
         → read_list allowed n list.text ≡ Ok d
-        → IsOkAnd heard (Sets es cs i (entry_at es i) (changed (row_at i cs) (filled d)) (filled d))
+        → IsOkAnd heard (Sets es cs i (entry_at es i) (changed (row_at i cs) d) (filled d))
     changes-heard id n i list d a first counts read =
         let r = changed (row_at i cs) (filled d) in
-        ok-and (change_row es cs i (filled d)) (Sets es cs i (entry_at es i) r (filled d))
+        let v = change_row es cs i (filled d) in
+        ok-and v (Sets es cs i (entry_at es i) (changed (row_at i cs) d) (filled d))
         (update-heard id n i list a first counts ∙ ap (change_by es cs list.at i) read)
-        (sets-row i first.inside r (length-row-changed i (filled d) first.inside) (filled d))
+        (subst (λ q. Sets es cs i (entry_at es i) q (filled d) v) (by-filled (row_at i cs) d _)
+        (sets-row i first.inside r (length-row-changed i (filled d) first.inside) (filled d)))
 
     -- a row that was set, with what is known of it
     record Setting (asked : Effect) (v : View) : Type 0 where
@@ -189,7 +205,7 @@ module _ (es : List Entry) (cs : List Cell) (eight : length es ≡ tap_limit)
             (i : ℕ) → First asked es i
             → ◌≡◌ {A = Result View Refusal} (Ok (set_entry es cs e (Some i))) (Ok v)
             → Setting asked v
-        setting i first same = record {
+        setting i first eq = record {
           entries = slice_set es i e;
           i = i;
           e = e;
@@ -201,15 +217,15 @@ module _ (es : List Entry) (cs : List Cell) (eight : length es ≡ tap_limit)
           held = λ _. null-allowed;
           brought = blank-allowed;
           sets = sets-entry i first.inside null_cells refl blank e;
-          is = same-from-ok (sym same);
+          is = same-from-ok (sym eq);
         }
 
     change-sets :
         (asked : Effect) (i at n : ℕ) (s : List ℕ) (q : Result (List Change) Refusal) (v : View)
         → First asked es i → read_list allowed n s ≡ q → change_by es cs at i q ≡ Ok v
         → Setting asked v
-    change-sets asked i at n s (Err f) v first read same = refused same
-    change-sets asked i at n s (Ok d) v first read same =
+    change-sets asked i at n s (Err f) v first read eq = refused eq
+    change-sets asked i at n s (Ok d) v first read eq =
         let row = changed (row_at i cs) (filled d) in
         let wide = length-row-changed i (filled d) first.inside in
         let values = filled-allowed allowed d (read-allowed allowed n s d read) in
@@ -227,7 +243,7 @@ module _ (es : List Entry) (cs : List Cell) (eight : length es ≡ tap_limit)
               changed-allowed allowed (row_at i cs) (filled d) was values;
           brought = values;
           sets = sets-row i first.inside row wide (filled d);
-          is = same-from-ok (sym same);
+          is = same-from-ok (sym eq);
         }
 
     update-done :
@@ -246,10 +262,10 @@ module _ (es : List Entry) (cs : List Cell) (eight : length es ≡ tap_limit)
         setting :
             (i : ℕ) → First asked es i → by-count (with_count es (Some i)) ≡ Ok v
             → Setting asked v
-        setting i first same =
+        setting i first eq =
             let (n, counts) = true-some (entry_at es i).fields (first.here).1 in
             change-sets asked i list.at n list.text (read_list allowed n list.text) v first refl
-            (ap (λ o. by-count (option_map (λ (m : ℕ). (i, m)) o)) (sym counts) ∙ same)
+            (ap (λ o. by-count (option_map (λ (m : ℕ). (i, m)) o)) (sym counts) ∙ eq)
 
     done : (asked : Effect) (v : View) → hear_effect es cs allowed asked ≡ Ok v → Done asked v
     done (opens id n) v is = set-done (opens id n) (opened id n) v (λ e. cc) is
@@ -306,7 +322,7 @@ module _ (es : List Entry) (cs : List Cell) (eight : length es ≡ tap_limit)
     own-done asked v j not =
         by-doing (Stays es cs j) asked v (λ a. (refl, refl))
         (λ s. (s.sets).others j
-        (λ same. not (subst (λ k. Fits asked (entry_at es k)) (sym same) (s.first).here)))
+        (λ eq. not (subst (λ k. Fits asked (entry_at es k)) (sym eq) (s.first).here)))
 
     abbrev OthersStay : View → Type 0
     OthersStay v = (i : ℕ) × ((j : ℕ) → j ≢ i → Stays es cs j v)
@@ -348,8 +364,13 @@ module _ (es : List Entry) (cs : List Cell) (eight : length es ≡ tap_limit)
       subok = λ id n i a first. set-heard (opened id n) i (opens id n) a refl first;
       unsub = λ id i a first. set-heard closed i (closes id) a refl first;
       update = λ id n i list d a first counts few spells long.
-          changes-heard id n i list d a first counts
-          ((reads-spelled allowed n list.text d few).1 spells long);
+          let read = (reads-spelled allowed n list.text d few).1 spells long in
+          subst
+          (λ (m : ℕ).
+          IsOkAnd heard
+          (Sets es cs i (entry_at es i) (changed (row_at i cs) d)
+          (d ++ replicate (field_limit - m) same)))
+          long (changes-heard id n i list d a first counts read);
       unspelled = λ id n i list r a first counts read.
           update-heard id n i list a first counts ∙ ap (change_by es cs list.at i) read;
       passed = λ asked a some all.
@@ -373,7 +394,7 @@ rows-apart = record {
   place = λ cs i f within.
       get_or-take field_limit (drop (field_limit * i) cs) f null within
       ∙ get_or-drop (field_limit * i) cs f null;
-  apart = λ i j f g h k e. let same : i ≡ j = omega arith in (same, omega arith);
+  apart = λ i j f g h k e. let eq : i ≡ j = omega arith in (eq, omega arith);
   set = λ cs r i all whole inside. row-with i r cs whole (omega arith);
   others = λ cs r i j all whole inside ne. row-others i r cs whole (omega arith) j ne;
 }

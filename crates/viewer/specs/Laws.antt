@@ -1,14 +1,14 @@
 -- Laws of hearing, in the subject's words: which entry and which row a line changes, and how. They
 -- are stated of texts, for every kind of value, every line and every viewer of eight entries.
-use Rattle.std.specs.Prelude.{◌≡◌, ◌≢◌, ℕ, ◌+◌, ◌*◌, ◌<◌, ◌≤◌, Bool, List, [], ◌∷◌, length, get_or}
-use Rattle.std.specs.Prelude.{Some, None, Ok, Err, Result, IsOkAnd, IsSome}
+use Rattle.std.specs.Prelude.{◌≡◌, ◌≢◌, ℕ, ◌+◌, ◌-◌, ◌*◌, ◌<◌, ◌≤◌, Bool, List, [], ◌∷◌, ◌++◌}
+use Rattle.std.specs.Prelude.{length}
+use Rattle.std.specs.Prelude.{get_or, replicate, Some, None, Ok, Err, Result, IsOkAnd, IsSome}
 use Rattle.std.specs.List.{AllByRecursion}
 use Rattle.row.specs.Faults.{moved}
 use Rattle.row.specs.Limits.{field_limit, tap_limit, cell_limit}
 use Rattle.row.specs.RowLaws.{cell_at}
-use Rattle.row.specs.Rows.{Cell, Change, becomes, blank, changed, row_at, with_row}
+use Rattle.row.specs.Rows.{Cell, Change, null, same, becomes, blank, changed, row_at, with_row}
 use Rattle.row.specs.declared.fault.Refusal.{Refusal}
-use Rattle.tlcp.specs.Held.{filled}
 use Rattle.tlcp.specs.Lines.{Argument, Message, numbered, listed, read_line, Says}
 use Rattle.tlcp.specs.Lists.{Allowed, read_list, Spells}
 use Rattle.tlcp.specs.Parts.{Piece}
@@ -16,7 +16,7 @@ use Rattle.tlcp.specs.declared.tag.Tag.{Tag}
 use Rattle.tlcp.specs.declared.tag.Tag.TheVariants.{U, Unsub, Subok}
 use Rattle.viewer.specs.Effects.{Effect, opens, closes, updates, nothing}
 use Rattle.viewer.specs.Entries.{closed}
-use Rattle.viewer.specs.Hearing.{View, hear, null_cells, after_lines}
+use Rattle.viewer.specs.Hearing.{View, hear, after_lines}
 use Rattle.viewer.specs.declared.entry.Entry.{Entry}
 use Rattle.viewer.specs.declared.hear.Heard.{Heard}
 use Rattle.viewer.specs.declared.hear.Heard.TheVariants.{Taken, Passed}
@@ -59,6 +59,10 @@ Fits (opens id n) e = e.id ≡ id
 Fits (closes id) e = e.id ≡ id
 Fits (updates id list) e = (e.id ≡ id) × IsSome e.fields
 Fits nothing e = ⊥
+
+-- a row that is null
+abbrev pub nulls : List Cell
+nulls = replicate field_limit null
 
 abbrev pub NoneFits : Effect → List Entry → Type 0
 NoneFits asked es = (i : ℕ) → i < length es → Fits asked (entry_at es i) → ⊥
@@ -103,18 +107,21 @@ module _ (es : List Entry) (cs : List Cell) where
       -- whether it was open before or not
       pub subok :
           (id n i : ℕ) → Asks line (opens id n) → First (opens id n) es i
-          → IsOkAnd told (Sets i (record { id = id; fields = Some n }) null_cells blank)
+          → IsOkAnd told (Sets i (record { id = id; fields = Some n }) nulls blank)
       -- after UNSUB the first entry with its ID has the ID 0 and is closed, and its row is null
       pub unsub :
           (id i : ℕ) → Asks line (closes id) → First (closes id) es i
-          → IsOkAnd told (Sets i (record { id = 0; fields = None }) null_cells blank)
+          → IsOkAnd told (Sets i (record { id = 0; fields = None }) nulls blank)
       -- after U the row of the first open entry with its ID is changed by the delta that the list
-      -- spells, one change for each of the entry's fields, and that delta was brought
+      -- spells, one change for each of the entry's fields, and that delta was brought, with same
+      -- behind it
       pub update :
           (id n i : ℕ) (list : Piece) (d : List Change) → Asks line (updates id list)
           → First (updates id list) es i → (entry_at es i).fields ≡ Some n → n ≤ field_limit
           → Spells allowed list.text d → length d ≡ n
-          → IsOkAnd told (Sets i (entry_at es i) (changed (row_at i cs) (filled d)) (filled d))
+          → IsOkAnd told
+          (Sets i (entry_at es i) (changed (row_at i cs) d)
+          (d ++ replicate (field_limit - n) same))
       -- where its list is refused for that many fields, U is refused, with the list's fault
       -- at its place in the line
       pub unspelled :
