@@ -110,8 +110,8 @@ module _ (allowed : List ℕ → Bool) where
   -- the entries and cells after one line more
   abbrev pub after_line : List Entry × List Cell → List ℕ → List Entry × List Cell
   after_line v line =
-      let heard = hear allowed v.0 v.1 line in
-      (entries_after v.0 heard, cells_after v.1 heard)
+      let made = hear allowed v.0 v.1 line in
+      (entries_after v.0 made, cells_after v.1 made)
 
   -- the entries and cells after some lines, heard in order
   abbrev pub after_lines : List Entry × List Cell → List (List ℕ) → List Entry × List Cell

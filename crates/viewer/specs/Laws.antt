@@ -60,10 +60,6 @@ Fits (closes id) e = e.id ≡ id
 Fits (updates id list) e = (e.id ≡ id) × IsSome e.fields
 Fits nothing e = ⊥
 
--- a row that is null
-abbrev pub nulls : List Cell
-nulls = replicate field_limit null
-
 abbrev pub NoneFits : Effect → List Entry → Type 0
 NoneFits asked es = (i : ℕ) → i < length es → Fits asked (entry_at es i) → ⊥
 
@@ -107,11 +103,13 @@ module _ (es : List Entry) (cs : List Cell) where
       -- whether it was open before or not
       pub subok :
           (id n i : ℕ) → Asks line (opens id n) → First (opens id n) es i
-          → IsOkAnd told (Sets i (record { id = id; fields = Some n }) nulls blank)
+          → IsOkAnd told
+          (Sets i (record { id = id; fields = Some n }) (replicate field_limit null) blank)
       -- after UNSUB the first entry with its ID has the ID 0 and is closed, and its row is null
       pub unsub :
           (id i : ℕ) → Asks line (closes id) → First (closes id) es i
-          → IsOkAnd told (Sets i (record { id = 0; fields = None }) nulls blank)
+          → IsOkAnd told
+          (Sets i (record { id = 0; fields = None }) (replicate field_limit null) blank)
       -- after U the row of the first open entry with its ID is changed by the delta that the list
       -- spells, one change for each of the entry's fields, and that delta was brought, with same
       -- behind it

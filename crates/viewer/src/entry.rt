@@ -35,7 +35,8 @@ pub(crate) fn find_open(entries: &[Entry], id: u32) -> Option<(usize, usize)>
     ensures value { result ≡ find_open id entries.now }
     ensures within { IfSome result (λ found. found.0 < length entries.now) }
 {
-    // the library promises of `position` which index it gives, but of `find_map` not which pair
+    // the library equates `position` with the list's first index, but says of `find_map` only what
+    // a run of its iterator gave
     let i = find_open_index(entries, id)?;
     let fields = entries[i].fields?;
     Some((i, fields))

@@ -25,8 +25,8 @@ pub enum Heard {
 
 /// The viewer's entries, one for each tap. The cells of the taps are lent to it with each line:
 /// 96 of them, the row of the tap with index i, counted from 0, being the twelve from 12 * i on.
-// cells and changes are lent beside the viewer: a struct that held either slice would carry a
-// lifetime into every caller, and an array of a type parameter cannot be written here
+// cells and changes are parameters of their own: a struct over both slices would need a clause in
+// each contract that it keeps their lengths, and of a generic type the checker covers no array
 #[derive(Drop)]
 pub struct Viewer {
     entries: [Entry; TAP_LIMIT],
