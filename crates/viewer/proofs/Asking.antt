@@ -3,7 +3,7 @@ use Rattle.std.proofs.Common.{◌≡◌, ◌≢◌, ℕ, List, [], ◌∷◌, Ok
 use Rattle.row.specs.Limits.{field_limit}
 use Rattle.tlcp.specs.Limits.{id_limit}
 use Rattle.tlcp.specs.Lines.{Message, Sort, number, list, id as line_id, single, field_count}
-use Rattle.tlcp.specs.Lines.{Argument, numbered, coded, worded, listed, Kept, Laid, none, last}
+use Rattle.tlcp.specs.Lines.{Argument, numbered, coded, worded, listed, OfSort, Laid, none, last}
 use Rattle.tlcp.specs.Lines.{more, Says, sorts, read_line}
 use Rattle.tlcp.specs.Parts.{Piece}
 use Rattle.tlcp.specs.declared.tag.Tag.{Tag}
@@ -16,15 +16,15 @@ use Rattle.viewer.specs.Effects.{Effect, opens, closes, updates, nothing, effect
 use Rattle.viewer.specs.Laws.{Asks, message, subok, unsub, update, other, AsksOne}
 
 -- each argument is of its sort
-abbrev AllKept : List Sort → List Argument → Type 0
-AllKept [] [] = Unit {0}
-AllKept [] (a ∷ args) = ⊥
-AllKept (k ∷ ks) [] = ⊥
-AllKept (k ∷ ks) (a ∷ args) = Kept k a × AllKept ks args
+abbrev AllOfSort : List Sort → List Argument → Type 0
+AllOfSort [] [] = Unit {0}
+AllOfSort [] (a ∷ args) = ⊥
+AllOfSort (k ∷ ks) [] = ⊥
+AllOfSort (k ∷ ks) (a ∷ args) = OfSort k a × AllOfSort ks args
 
 laid-kept :
     {ks : List Sort} {at : ℕ} {args : List Argument} {s : List ℕ} → Laid ks at args s
-    → AllKept ks args
+    → AllOfSort ks args
 laid-kept none = tt
 laid-kept (last kept is) = (kept, tt)
 laid-kept (more kept is plain laid) = (kept, laid-kept laid)
@@ -74,29 +74,29 @@ asks-read line asked (other {m} says a b c) =
     said-asks line m nothing says (idle-tag m.tag m.args a b c)
 
 number-from :
-    (low high : ℕ) (a : Argument) → Kept (number low high) a → (p : Piece) × (n : ℕ)
+    (low high : ℕ) (a : Argument) → OfSort (number low high) a → (p : Piece) × (n : ℕ)
     × (a ≡ numbered p n)
 number-from low high (numbered p n) kept = (p, n, refl)
 number-from low high (coded p z) kept = absurd kept
 number-from low high (worded p) kept = absurd kept
 number-from low high (listed p) kept = absurd kept
 
-list-from : (a : Argument) → Kept list a → (p : Piece) × (a ≡ listed p)
+list-from : (a : Argument) → OfSort list a → (p : Piece) × (a ≡ listed p)
 list-from (numbered p n) kept = absurd kept
 list-from (coded p z) kept = absurd kept
 list-from (worded p) kept = absurd kept
 list-from (listed p) kept = (p, refl)
 
 one-from :
-    (k : Sort) (args : List Argument) → AllKept (k ∷ []) args → (a : Argument) × (args ≡ a ∷ [])
-    × Kept k a
+    (k : Sort) (args : List Argument) → AllOfSort (k ∷ []) args → (a : Argument) × (args ≡ a ∷ [])
+    × OfSort k a
 one-from k [] kept = absurd kept
 one-from k (a ∷ []) kept = (a, refl, kept.0)
 one-from k (a ∷ b ∷ args) kept = absurd kept.1
 
 next-from :
-    (k : Sort) (ks : List Sort) (args : List Argument) → AllKept (k ∷ ks) args → (a : Argument)
-    × (others : List Argument) × (args ≡ a ∷ others) × Kept k a × AllKept ks others
+    (k : Sort) (ks : List Sort) (args : List Argument) → AllOfSort (k ∷ ks) args → (a : Argument)
+    × (others : List Argument) × (args ≡ a ∷ others) × OfSort k a × AllOfSort ks others
 next-from k ks [] kept = absurd kept
 next-from k ks (a ∷ args) kept = (a, args, refl, kept.0, kept.1)
 
@@ -114,7 +114,7 @@ module _ (line : List ℕ) (name : Piece) (args : List Argument) where
   idle t a b c says = (nothing, other says a b c)
 
   asks-by :
-      (t : Tag) → SaysThis t args → AllKept (sorts t) args → (asked : Effect) × Asks line asked
+      (t : Tag) → SaysThis t args → AllOfSort (sorts t) args → (asked : Effect) × Asks line asked
   asks-by Subok says kept =
       let (a, xs, is, first, kept) = next-from line_id (single ∷ field_count ∷ []) args kept in
       let (b, ys, is', second, kept) = next-from single (field_count ∷ []) xs kept in
