@@ -22,12 +22,12 @@ AllOfSort [] (a ∷ args) = ⊥
 AllOfSort (k ∷ ks) [] = ⊥
 AllOfSort (k ∷ ks) (a ∷ args) = OfSort k a × AllOfSort ks args
 
-laid-of-sort :
+laid-kept :
     {ks : List Sort} {at : ℕ} {args : List Argument} {s : List ℕ} → Laid ks at args s
     → AllOfSort ks args
-laid-of-sort none = tt
-laid-of-sort (last kept is) = (kept, tt)
-laid-of-sort (more kept is plain laid) = (kept, laid-of-sort laid)
+laid-kept none = tt
+laid-kept (last kept is) = (kept, tt)
+laid-kept (more kept is plain laid) = (kept, laid-kept laid)
 
 -- a tag that asks nothing of a viewer
 idle-tag :
@@ -155,4 +155,4 @@ module _ (line : List ℕ) (name : Piece) (args : List Argument) where
 pub asks-one : AsksOne
 asks-one line m read =
     let says = (reads-said reads-escapes line m).0 read in
-    asks-by line m.name m.args m.tag says (laid-of-sort says.args)
+    asks-by line m.name m.args m.tag says (laid-kept says.args)

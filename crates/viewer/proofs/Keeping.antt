@@ -16,7 +16,7 @@ use Rattle.tlcp.specs.Held.{filled}
 use Rattle.tlcp.specs.Lines.{Message, read_line}
 use Rattle.tlcp.specs.Lists.{Allowed, read_list}
 use Rattle.tlcp.specs.Parts.{Piece}
-use Rattle.tlcp.proofs.Reading.{refused}
+use Rattle.tlcp.proofs.Reading.{refused, same-from-ok}
 use Rattle.tlcp.proofs.Spelling.{reads-spelled}
 use Rattle.viewer.specs.Effects.{Effect, opens, closes, updates, nothing}
 use Rattle.viewer.specs.Entries.{opened, closed, find_open, with_count}
@@ -33,9 +33,6 @@ use Rattle.viewer.proofs.Finding.{true-some}
 use Rattle.viewer.proofs.Places.{length-with, row-with, row-others, length-row}
 use Rattle.viewer.proofs.Values.{read-allowed, filled-allowed, changed-allowed, row-allowed}
 use Rattle.viewer.proofs.Values.{with-allowed}
-
-same-from-ok : {X : Type 0} {x y : X} → ◌≡◌ {A = Result X Refusal} (Ok x) (Ok y) → x ≡ y
-same-from-ok e = cc
 
 unmoved-stays :
     {es : List Entry} {cs : List Cell} {a : Heard} → Unchanged es cs a (unmoved es cs a)
