@@ -1,6 +1,8 @@
 -- The pairs that a draft holds, before and behind each call.
-use Rattle.std.proofs.Common.{◌≡◌, ℕ, ◌+◌, ◌-◌, ◌<◌, ◌≤◌, Bool, true, false, cond, ◌&&◌, ◌||◌, eqb, leb, List, [], ◌∷◌, ◌++◌, map, length, get_or, drop, set, replicate, is_some, Some, None, Ok, Err, Option, Result, sym, refl, ap, ◌∙◌, subst, ⊎_elim, append_assoc, arith}
-use Rattle.std.specs.List.{flat_map}
+use Rattle.std.proofs.Common.{◌≡◌, ℕ, ◌+◌, ◌-◌, ◌<◌, ◌≤◌, Bool, true, false, cond, not, ◌&&◌, ◌||◌, eqb, leb, List, [], ◌∷◌, ◌++◌, map, length, get_or, drop, set, replicate, is_some, Some, None, Ok, Err, Option, Result, sym, refl, ap, ◌∙◌, subst, ⊎_elim, append_assoc, arith}
+use Rattle.std.specs.Prelude.{is_ok}
+use Rattle.std.specs.Result.{result_map_both}
+use Rattle.std.specs.List.{AllByRecursion, flat_map}
 use Rattle.std.proofs.lemmas.List.{append-nil, length-append, length-replicate, length-set, get_or_past, get_or-replicate, get_or-set_same, get_or-set_other, flat_map_more, map_push, take_at, drop_at, drop-drop, drop-replicate}
 use Rattle.std.proofs.lemmas.Bool.Decides.{nat_tests}
 use Rattle.std.proofs.lemmas.Bool.{cases_lt, and_parts, both_ways, cases_eq, eq-eqb, ne_eqb, leb-true, not-true, or_right, or_from}
@@ -16,8 +18,8 @@ use Rattle.requests.specs.Names.{index_of, is_in, parameter_count, parameters_of
 use Rattle.requests.specs.declared.name.Name.{Name}
 use Rattle.requests.specs.declared.name.Parameter.{Parameter}
 use Rattle.compose.specs.Written.{Pair, given_by, head_text, pair_text, written}
-use Rattle.compose.specs.Drafts.{Draft, fresh, is_open, addition, has_room, with_pair, add_answer, add_to}
-use Rattle.compose.specs.Held.{Stands, Holds, pairs_after}
+use Rattle.compose.specs.Drafts.{Draft, fresh, is_fresh, is_open, addition, has_room, with_pair, open_answer, unfit, add_answer, add_to, closed, finished, finished_len, left_by, length_or}
+use Rattle.compose.specs.Held.{Stands, Fits, Holds, finish_answer, finish_bytes, pairs_after}
 
 pub length-padded : (n : ℕ) (t : List ℕ) → length t ≤ n → length (padded n t) ≡ n
 length-padded n t h = simp (length-append, length-replicate) (omega arith)
@@ -102,21 +104,43 @@ apart-push (f ∷ gs) g a new =
     by true e = absurd (both_ways true e refl)
     by false e = (refl, e)
 
+all-push : (P : Pair → Type 0) (xs : List Pair) (x : Pair) → AllByRecursion P xs → P x → AllByRecursion P (xs ++ x ∷ [])
+all-push P [] x all one = (one, tt)
+all-push P (y ∷ xs) x all one = (all.0, all-push P xs x all.1 one)
+
 pub holds-fresh : (name : Name) (n : ℕ) → length (head_text name) ≤ n → Holds (fresh name n) []
 holds-fresh name n room =
     let head = append-nil (head_text name) in
     record {
+      begun = refl;
+      unkept = refl;
       request = record {
         text = sym (λ i. padded (length-padded n (head_text name) room i) (head i));
         size = ap length (sym head);
       };
       places = refl;
       added = λ p. none p;
-      apart = tt;
+      fit = record { known = tt; apart = tt; short = tt };
     }
   where
     none : (p : Parameter) → get_or (replicate parameter_count false) (index_of p) false ≡ false
     none p = ⊎_elim (get_or-replicate parameter_count (index_of p) false false) (get_or_past (replicate parameter_count false) (index_of p) false) (cases_lt (index_of p) parameter_count)
+
+-- a request is finished with its length
+pub finished-length : (d : Draft) → length_or (finished d) ≡ finished_len d.name d.begun d.len
+finished-length d = by d.begun (is_fresh d)
+  where
+    by : (b f : Bool) → length_or (result_map_both (λ _. d) (λ e. e) (cond b (cond f (Err unfit) (Ok d.len)) (Err no_room))) ≡ cond b (cond f (Err unfit) (Ok d.len)) (Err no_room)
+    by true true = refl
+    by true false = refl
+    by false f = refl
+
+pub ok-finished : (d : Draft) → is_ok (finished d) ≡ is_ok (finished_len d.name d.begun d.len)
+ok-finished d = by (finished_len d.name d.begun d.len)
+  where
+    by : (r : Result ℕ Refusal) → is_ok (result_map_both (λ _. d) (λ e. e) r) ≡ is_ok r
+    by (Ok n) = refl
+    by (Err e) = refl
 
 -- one more pair
 module _ (d : Draft) (x : Pair) (xs : List Pair) (h : Holds d xs) where
@@ -158,23 +182,48 @@ module _ (d : Draft) (x : Pair) (xs : List Pair) (h : Holds d xs) where
 
   pub holds_more : index_of x.parameter < parameter_count → is_open d x.parameter ≡ true → has_room d x ≡ true → Holds (with_pair d x) (xs ++ x ∷ [])
   holds_more small new room =
-      let fit = (and_parts (leb (length x.value) value_limit) (fits d.len (addition d x) d.bytes) room).1 in
-      let unknown = not-true _ (and_parts (is_in x.parameter (parameters_of d.name)) _ new).1 in
+      let (short, fit) = and_parts (leb (length x.value) value_limit) (fits d.len (addition d x) d.bytes) room in
+      let (known, unset) = and_parts (is_in x.parameter (parameters_of d.name)) _ new in
+      let other = sym (h.added x.parameter) ∙ not-true _ unset in
       record {
+        begun = h.begun;
+        unkept = h.unkept;
         request = stands-more (leb-true _ _ fit);
         places = length-set d.given (index_of x.parameter) true ∙ h.places;
         added = added_more small;
-        apart = subst Apart (sym (map_push given_by xs x)) (apart-push (map given_by xs) (given_by x) h.apart (sym (h.added x.parameter) ∙ unknown));
+        fit = record {
+          known = all-push (λ y. is_in y.parameter (parameters_of d.name) ≡ true) xs x h.fit.known known;
+          apart = subst Apart (sym (map_push given_by xs x)) (apart-push (map given_by xs) (given_by x) h.fit.apart other);
+          short = all-push (λ y. length y.value ≤ value_limit) xs x h.fit.short (leb-true _ _ short);
+        };
       }
 
   -- whatever a call answers
   pub holds_after : (r : Result (Unit {0}) Refusal) (e : Draft) → index_of x.parameter < parameter_count → r ≡ add_answer d x → e ≡ add_to d x → Holds e (pairs_after r xs x)
   holds_after r e small answer left =
       let all = by (is_open d x.parameter) (has_room d x) refl refl in
-      coe 1 0 (i. Holds (left i) (pairs_after (answer i) xs x)) all
+      coe 1 0 (i. Holds (left i) (pairs_after (answer i) xs x))
+      (coe 1 0 (i. Holds (cond (h.begun i && (is_open d x.parameter && has_room d x)) (with_pair d x) d) (pairs_after (cond (h.begun i) (open_answer d x) (Err no_room)) xs x)) all)
     where
-      by : (o b : Bool) → is_open d x.parameter ≡ o → has_room d x ≡ b → Holds (cond (o && b) (with_pair d x) d) (pairs_after (cond o (cond b (Ok tt) (Err no_room)) (Err (refusal Parts 0))) xs x)
+      by : (o b : Bool) → is_open d x.parameter ≡ o → has_room d x ≡ b → Holds (cond (o && b) (with_pair d x) d) (pairs_after (cond o (cond b (Ok tt) (Err no_room)) (Err unfit)) xs x)
       by true true new room = holds_more small new room
       by true false new room = h
       by false true new room = h
       by false false new room = h
+
+-- a request with these pairs, finished
+pub holds-finished : (d : Draft) (xs : List Pair) → Holds d xs → (length_or (finished d) ≡ finish_answer d.name xs) × (left_by (closed d) ≡ finish_bytes d.name xs (length d.bytes))
+holds-finished d xs h =
+    let r = finished_len d.name d.begun d.len in
+    let is : r ≡ cond (is_none xs) (Err unfit) (Ok d.len) =
+    ap (λ b. cond b (cond (is_fresh d) (Err unfit) (Ok d.len)) (Err no_room)) h.begun ∙ ap (λ b. cond b (Err unfit) (Ok d.len)) (fresh-none d.name xs d.len h.request.size) in
+    let left : left_by (closed d) ≡ cond (not (is_ok (cond (is_none xs) (Err unfit) (Ok d.len)))) (replicate (length d.bytes) 0) d.bytes =
+    ap (λ k. left_by (record d { kept = k })) (ok-finished d) ∙ (λ i. cond (h.begun i && not (is_ok (is i))) (replicate (length d.bytes) 0) d.bytes) in
+    by xs refl (finished-length d ∙ is) left
+  where
+    by : (ys : List Pair) → ys ≡ xs → length_or (finished d) ≡ cond (is_none ys) (Err unfit) (Ok d.len) → left_by (closed d) ≡ cond (not (is_ok (cond (is_none ys) (Err unfit) (Ok d.len)))) (replicate (length d.bytes) 0) d.bytes → (length_or (finished d) ≡ finish_answer d.name ys) × (left_by (closed d) ≡ finish_bytes d.name ys (length d.bytes))
+    by [] same answer bytes = (answer, bytes)
+    by (y ∷ ys) same answer bytes = (
+      answer ∙ ap Ok (h.request.size ∙ ap (λ l. length (written d.name l)) (sym same)),
+      bytes ∙ h.request.text ∙ ap (λ l. padded (length d.bytes) (written d.name l)) (sym same),
+    )

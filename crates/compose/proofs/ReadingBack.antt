@@ -1,6 +1,7 @@
 -- What is written is read back: it is short enough, and it asks for what its pairs say.
 use Rattle.std.proofs.Common.{◌≡◌, ℕ, ◌+◌, ◌*◌, ◌/◌, ◌%◌, ◌<◌, ◌≤◌, Bool, true, false, cond, ◌||◌, eqb, List, [], ◌∷◌, ◌++◌, map, length, is_some, Some, None, Option, sym, refl, ap, ◌∙◌, append_assoc, arith, lit≤}
 use Rattle.std.specs.List.{AllByRecursion}
+use Rattle.std.proofs.ByRecursion.{All-weaker}
 use Rattle.std.proofs.lemmas.List.{length-append, length-drop, length-map}
 use Rattle.std.proofs.lemmas.Bool.{both_ways, eq-eqb, eqb-true, not-false, or_right}
 use Rattle.std.proofs.lemmas.Bool.Decides.{nat_tests}
@@ -10,7 +11,8 @@ use Rattle.tlcp.specs.Dividing.{each_behind, joined_by}
 use Rattle.tlcp.proofs.Unescaped.{decodes-by, length-by}
 use Rattle.requests.specs.Asked.{Given, Sound, Apart, ReadsAsked, found, spelling}
 use Rattle.requests.specs.Limits.{request_limit, value_limit}
-use Rattle.requests.specs.Names.{index_of, is_in, name_word, parameter_word, takes}
+use Rattle.requests.specs.Names.{index_of, is_in, name_word, parameters_of, parameter_word, takes}
+use Rattle.requests.proofs.Forming.{takes-in}
 use Rattle.requests.specs.Requests.{request_of}
 use Rattle.requests.specs.declared.name.Form.{Form}
 use Rattle.requests.specs.declared.name.Form.TheVariants.{Create, Bind, Add, Delete, ForceRebind}
@@ -19,7 +21,8 @@ use Rattle.requests.specs.declared.name.Name.TheVariants.{CreateSession, BindSes
 use Rattle.requests.specs.declared.name.Parameter.{Parameter}
 use Rattle.requests.specs.declared.name.Parameter.TheVariants.{Cid, User, Password, Session, RequestId, Operation, SubscriptionId, Group, Schema, Mode, Snapshot}
 use Rattle.compose.specs.Written.{Pair, given_by, head_text, written}
-use Rattle.compose.specs.ReadBack.{value_in, ReadsBack}
+use Rattle.compose.specs.Held.{Fits, WithinLimit}
+use Rattle.compose.specs.ReadBack.{Keeps, value_in, ReadsBack}
 
 abbrev unit : Bool → ℕ
 unit b = cond b 1 0
@@ -70,13 +73,11 @@ few : (gs : List Given) (ps : List Parameter) → Apart gs → AllByRecursion (�
 few [] ps a is = omega arith
 few (g ∷ gs) ps a is = omega (arith, few gs ps a.1 is.1, count-new g gs ps a.0 is.0)
 
--- so a form has at most seven
-takes-few : (form : Form) → length (takes form) ≤ 7
-takes-few Create = lit≤ tt
-takes-few Bind = lit≤ tt
-takes-few Add = lit≤ tt
-takes-few Delete = lit≤ tt
-takes-few ForceRebind = lit≤ tt
+-- so a request has at most seven
+names-few : (name : Name) → length (parameters_of name) ≤ 7
+names-few CreateSession = lit≤ tt
+names-few BindSession = lit≤ tt
+names-few Control = lit≤ tt
 
 head-short : (name : Name) → length (head_text name) ≤ 16
 head-short CreateSession = lit≤ tt
@@ -108,12 +109,13 @@ only-given : (xs : List Pair) (ps : List Parameter) → AllByRecursion (λ x. is
 only-given [] ps h = tt
 only-given (x ∷ xs) ps h = (h.0, only-given xs ps h.1)
 
-pub written-short : (name : Name) (form : Form) (xs : List Pair) → AllByRecursion (λ x. length x.value ≤ value_limit) xs → Apart (map given_by xs) → AllByRecursion (λ x. is_in x.parameter (takes form) ≡ true) xs → length (written name xs) ≤ request_limit
-written-short name form xs short apart only =
+pub within-limit : WithinLimit
+within-limit name xs h =
     let gs = map given_by xs in
     let body = each_behind 38 (map spelling gs) in
-    let seven : length gs ≤ 7 = omega (arith, few gs (takes form) apart (only-given xs (takes form) only), count-few gs (takes form), takes-few form) in
-    omega (arith, length-append (head_text name) (joined_by 38 (map spelling gs)), length-drop 1 body, head-short name, pairs-short xs short, length-map xs given_by)
+    let few = few gs (parameters_of name) h.apart (only-given xs (parameters_of name) h.known) in
+    let seven : length gs ≤ 7 = omega (arith, few, count-few gs (parameters_of name), names-few name) in
+    omega (arith, length-append (head_text name) (joined_by 38 (map spelling gs)), length-drop 1 body, head-short name, pairs-short xs h.short, length-map xs given_by)
 
 -- an escaped value is plain
 plain-digit : (n : ℕ) → n < 16 → is_plain (hex_digit n) ≡ true
@@ -140,6 +142,14 @@ sound-given (x ∷ xs) bytes short = (
   sound-given xs bytes.1 short.1,
 )
 
+-- pairs of a form are of its name
+pub keeps-fit : {session : ℕ} {name : Name} {form : Form} {xs : List Pair} → Keeps session name form xs → Fits name xs
+keeps-fit {name = name} {form = form} {xs = xs} k = record {
+  known = All-weaker (λ x. is_in x.parameter (takes form) ≡ true) (λ x. is_in x.parameter (parameters_of name) ≡ true) (λ x. takes-in k.formed x.parameter) xs k.only;
+  apart = k.apart;
+  short = k.short;
+}
+
 -- given that the reader takes what asks for a request
 pub reads-back : ReadsAsked → ReadsBack
 reads-back reads session name form xs k =
@@ -148,7 +158,7 @@ reads-back reads session name form xs k =
       name = name;
       form = form;
       pairs = map given_by xs;
-      short = written-short name form xs k.short k.apart k.only;
+      short = within-limit name xs (keeps-fit k);
       whole = append_assoc (name_word name) (13 ∷ 10 ∷ []) (joined_by 38 (map spelling (map given_by xs)));
       sound = sound-given xs k.bytes k.short;
       apart = k.apart;

@@ -1,5 +1,6 @@
 pub mod Written
 pub mod Drafts
+pub mod Writers
 pub mod Held
 pub mod Composed
 pub mod ReadBack

@@ -1,6 +1,7 @@
 //! Whole requests.
 ghost use Rattle.std.specs.Prelude.{◌≡◌};
-ghost use Rattle.compose.specs.Composed.{ComposesAll, bytes_or, composing, length_or, zeroed_or};
+ghost use Rattle.compose.specs.Composed.{ComposesAll, composing, zeroed_or};
+ghost use Rattle.compose.specs.Drafts.{bytes_or, length_or};
 ghost use Rattle.compose.specs.Pairs.{pairs_in};
 
 use crate::pair::Pair;
@@ -16,9 +17,8 @@ pub fn compose(out: &mut [u8], name: Name, pairs: &[Pair<'_>]) -> Result<usize, 
     ensures rooms { ComposesAll }
 {
     let mut request = RequestWriter::new(out, name);
-    request.begin()?;
     for pair in pairs {
         request.add(pair.parameter, pair.value)?;
     }
-    Ok(request.finish().len)
+    Ok(request.finish()?.len)
 }

@@ -2,7 +2,8 @@ use Rattle.std.proofs.Common.{◌≡◌, Ok, Result, arith}
 use Rattle.std.proofs.lemmas.Grind.{common_steps}
 use Rattle.row.specs.declared.fault.Refusal.{Refusal}
 use Rattle.compose.specs.Written.{pair}
-use Rattle.compose.specs.Drafts.{add_answer, draft_of}
+use Rattle.compose.specs.Drafts.{add_answer}
+use Rattle.compose.specs.Writers.{draft_of}
 use Rattle.compose.proofs.Holding.{holds_after}
 use Rattle.compose.proofs.request.RequestWriter.add.Goals as goal
 
