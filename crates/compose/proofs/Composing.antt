@@ -5,7 +5,6 @@ use Rattle.std.proofs.lemmas.Bool.{and_cases, and_parts, and_from, and_left, and
 use Rattle.std.specs.Result.{result_map_both}
 use Rattle.std.specs.Prelude.{is_ok}
 use Rattle.std.specs.List.{AllByRecursion}
-use Rattle.row.specs.Texts.{padded}
 use Rattle.row.specs.declared.fault.Refusal.{Refusal}
 use Rattle.tlcp.specs.Lines.{and_then}
 use Rattle.tlcp.specs.Written.{placed, fits, no_room}

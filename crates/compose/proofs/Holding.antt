@@ -6,9 +6,7 @@ use Rattle.std.specs.List.{AllByRecursion, flat_map}
 use Rattle.std.proofs.lemmas.List.{append-nil, length-append, length-replicate, length-set, get_or_past, get_or-replicate, get_or-set_same, get_or-set_other, flat_map_more, map_push, take_at, drop_at, drop-drop, drop-replicate}
 use Rattle.std.proofs.lemmas.Bool.Decides.{nat_tests}
 use Rattle.std.proofs.lemmas.Bool.{cases_lt, and_parts, both_ways, cases_eq, eq-eqb, ne_eqb, leb-true, not-true, or_right, or_from}
-use Rattle.row.specs.Faults.{refusal}
 use Rattle.row.specs.Texts.{padded}
-use Rattle.row.specs.declared.fault.Fault.TheVariants.{Parts}
 use Rattle.row.specs.declared.fault.Refusal.{Refusal}
 use Rattle.tlcp.specs.Dividing.{joined_by}
 use Rattle.tlcp.specs.Written.{placed, fits, no_room}
@@ -19,7 +17,7 @@ use Rattle.requests.specs.declared.name.Name.{Name}
 use Rattle.requests.specs.declared.name.Parameter.{Parameter}
 use Rattle.compose.specs.Written.{Pair, given_by, head_text, pair_text, written}
 use Rattle.compose.specs.Drafts.{Draft, fresh, is_fresh, is_open, addition, has_room, with_pair, open_answer, unfit, add_answer, add_to, closed, finished, finished_len, left_by, length_or}
-use Rattle.compose.specs.Held.{Stands, Fits, Holds, finish_answer, finish_bytes, pairs_after}
+use Rattle.compose.specs.Held.{Stands, Holds, finish_answer, finish_bytes, pairs_after}
 
 pub length-padded : (n : ℕ) (t : List ℕ) → length t ≤ n → length (padded n t) ≡ n
 length-padded n t h = simp (length-append, length-replicate) (omega arith)

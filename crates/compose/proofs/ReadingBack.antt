@@ -10,12 +10,11 @@ use Rattle.tlcp.specs.Escapes.{encoded_by, hex_digit, spelled}
 use Rattle.tlcp.specs.Dividing.{each_behind, joined_by}
 use Rattle.tlcp.proofs.Unescaped.{decodes-by, length-by}
 use Rattle.requests.specs.Asked.{Given, Sound, Apart, ReadsAsked, found, spelling}
-use Rattle.requests.specs.Limits.{request_limit, value_limit}
+use Rattle.requests.specs.Limits.{value_limit}
 use Rattle.requests.specs.Names.{index_of, is_in, name_word, parameters_of, parameter_word, takes}
 use Rattle.requests.proofs.Forming.{takes-in}
 use Rattle.requests.specs.Requests.{request_of}
 use Rattle.requests.specs.declared.name.Form.{Form}
-use Rattle.requests.specs.declared.name.Form.TheVariants.{Create, Bind, Add, Delete, ForceRebind}
 use Rattle.requests.specs.declared.name.Name.{Name}
 use Rattle.requests.specs.declared.name.Name.TheVariants.{CreateSession, BindSession, Control}
 use Rattle.requests.specs.declared.name.Parameter.{Parameter}

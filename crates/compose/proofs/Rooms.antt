@@ -1,10 +1,9 @@
 -- Pairs of a name, none of them twice, are refused only for their lengths or the room.
-use Rattle.std.proofs.Common.{◌≡◌, ℕ, ◌<◌, Bool, true, false, cond, eqb, List, [], ◌∷◌, ◌++◌, map, is_some, Some, Ok, Err, Result, sym, refl, ap, ◌∙◌, subst, append_assoc, lit<}
+use Rattle.std.proofs.Common.{◌≡◌, ℕ, ◌<◌, Bool, true, false, eqb, List, [], ◌∷◌, ◌++◌, map, is_some, Some, Err, sym, refl, ap, ◌∙◌, subst, append_assoc, lit<}
 use Rattle.std.specs.List.{AllByRecursion}
 use Rattle.std.proofs.lemmas.List.{append-nil}
-use Rattle.std.proofs.lemmas.Bool.{both_ways, cond_both, cond-true, cond-false}
+use Rattle.std.proofs.lemmas.Bool.{both_ways, cond_both, cond-true}
 use Rattle.tlcp.specs.Lines.{and_then}
-use Rattle.row.specs.declared.fault.Refusal.{Refusal}
 use Rattle.tlcp.specs.Written.{fits, no_room}
 use Rattle.requests.specs.Asked.{found, Apart}
 use Rattle.requests.specs.Names.{index_of, is_in, parameter_count, parameters_of}

@@ -1,6 +1,7 @@
 //! A request that is being written into lent bytes.
-ghost use Rattle.std.specs.Prelude.{◌≡◌, List, [], length, is_some, true, ◌==◌};
+ghost use Rattle.std.specs.Prelude.{◌≡◌, ◌≤◌, List, [], length, is_some, true, IfOk, ◌==◌};
 ghost use Rattle.std.specs.Result.{result_map_both};
+ghost use Rattle.requests.specs.Limits.{request_limit};
 ghost use Rattle.compose.specs.Written as written;
 ghost use Rattle.compose.specs.Written.{head_text, pair};
 ghost use Rattle.compose.specs.Drafts.{add_answer, add_to, begin, closed, finished, finished_len, left_by, length_or};
@@ -137,6 +138,7 @@ impl<'a> RequestWriter<'a> {
         ensures answer { result_map_both (λ f. f.len) (λ e. e) result ≡ length_or (finished (draft_of self.entry)) }
         ensures bytes { self.exit.0.now ≡ left_by (closed (draft_of self.entry)) }
         ensures pairs { (xs : List written.Pair) → Holds (draft_of self.entry) xs → (result_map_both (λ f. f.len) (λ e. e) result ≡ finish_answer self.entry.name xs) × (self.exit.0.now ≡ finish_bytes self.entry.name xs (length self.entry.out.now)) }
+        ensures limit { (xs : List written.Pair) → Holds (draft_of self.entry) xs → IfOk result (λ f. f.len ≤ request_limit) }
         ensures within { WithinLimit }
         ensures reads { ReadsBack }
     {
