@@ -1,19 +1,25 @@
 -- Pairs of a name, none of them twice, are refused only for their lengths or the room.
-use Rattle.std.proofs.Common.{◌≡◌, ℕ, ◌<◌, Bool, true, false, eqb, List, [], ◌∷◌, ◌++◌, map, is_some, Some, Err, sym, refl, ap, ◌∙◌, subst, append_assoc, lit<}
+use Rattle.std.proofs.Common.{◌≡◌, ℕ, ◌+◌, ◌<◌, ◌≤◌, Bool, true, false, eqb, List, [], ◌∷◌, ◌++◌, map, length, is_some, Some, Ok, Err, sym, refl, ap, ◌∙◌, subst, append_assoc, arith, lit<}
 use Rattle.std.specs.List.{AllByRecursion}
 use Rattle.std.proofs.lemmas.List.{append-nil}
-use Rattle.std.proofs.lemmas.Bool.{both_ways, cond_both, cond-true}
+use Rattle.std.proofs.lemmas.Bool.{and_from, both_ways, cond_both, cond-true, le-leb}
+use Rattle.row.specs.Texts.{padded}
 use Rattle.tlcp.specs.Lines.{and_then}
 use Rattle.tlcp.specs.Written.{fits, no_room}
 use Rattle.requests.specs.Asked.{found, Apart}
-use Rattle.requests.specs.Names.{index_of, is_in, parameter_count, parameters_of}
+use Rattle.requests.specs.Names.{index_of, is_in, needs, parameter_count, parameters_of}
+use Rattle.requests.specs.declared.name.Form.{Form}
+use Rattle.requests.specs.declared.name.Form.TheVariants.{Create, Bind, Add, Delete, ForceRebind}
 use Rattle.requests.specs.declared.name.Name.{Name}
 use Rattle.requests.specs.declared.name.Parameter.{Parameter}
 use Rattle.requests.specs.declared.name.Parameter.TheVariants.{Cid, User, Password, Session, RequestId, Operation, SubscriptionId, Group, Schema, Mode, Snapshot}
-use Rattle.compose.specs.Composed.{ComposesAll, add_all, composing}
-use Rattle.compose.specs.Drafts.{Draft, add_to, begin, finished, has_room}
-use Rattle.compose.specs.Written.{Pair, given_by, head_text}
-use Rattle.compose.proofs.Composing.{Composed, Reached, add-reached, add-refused, answered, begin-reached, begin-refused, finish-composed, settled}
+use Rattle.compose.specs.Composed.{ComposesAll, add_all, composing, zeroed_or}
+use Rattle.compose.specs.Drafts.{Draft, add_to, begin, bytes_or, finished, has_room, length_or}
+use Rattle.compose.specs.Held.{none_or}
+use Rattle.compose.specs.ReadBack.{Keeps, value_in}
+use Rattle.compose.specs.Written.{Pair, given_by, head_text, written}
+use Rattle.compose.proofs.ReadingBack.{keeps-fit}
+use Rattle.compose.proofs.Composing.{Composed, Reached, add-reached, add-refused, answered, are-short, begin-reached, begin-refused, finish-composed, settled}
 use Rattle.compose.proofs.Holding.{eqb-turned}
 
 small : (p : Parameter) → index_of p < parameter_count
@@ -68,3 +74,20 @@ composes-all name xs out known apart = by (fits 0 (head_text name) out) refl
     by : (b : Bool) → fits 0 (head_text name) out ≡ b → Composed name out (composing name xs out) xs
     by true fit = composes-rest name out (begin name out) [] xs (begin-reached name out fit) known apart
     by false none = begin-refused name out xs none
+
+-- a form needs something, so there is a pair
+some-pair : {A : Type 0} (xs : List Pair) (form : Form) (a b : A) → AllByRecursion (λ p. is_some (value_in xs p) ≡ true) (needs form) → none_or xs a b ≡ b
+some-pair (x ∷ xs) form a b all = refl
+some-pair [] Create a b all = absurd (both_ways false refl all.0)
+some-pair [] Bind a b all = absurd (both_ways false refl all.0)
+some-pair [] Add a b all = absurd (both_ways false refl all.0)
+some-pair [] Delete a b all = absurd (both_ways false refl all.0)
+some-pair [] ForceRebind a b all = absurd (both_ways false refl all.0)
+
+-- a request that keeps the rules is composed wherever it fits
+pub keeps-composed : {session : ℕ} {name : Name} {form : Form} {xs : List Pair} → Keeps session name form xs → (out : List ℕ) → length (written name xs) ≤ length out → (length_or (composing name xs out) ≡ Ok (length (written name xs))) × (bytes_or (zeroed_or name out) (composing name xs out) ≡ padded (length out) (written name xs))
+keeps-composed {name = name} {form = form} {xs = xs} k out room =
+    let fit = keeps-fit k in
+    let (answer, left) = composes-all name xs out fit.known fit.apart in
+    let can = and_from _ _ (are-short xs fit.short) (le-leb (0 + length (written name xs)) (length out) (omega (arith, room))) in
+    (answer ∙ cond-true _ _ _ can ∙ some-pair xs form _ _ k.all, left ∙ cond-true _ _ _ can ∙ some-pair xs form _ _ k.all)

@@ -2,7 +2,8 @@
 use Rattle.std.proofs.Common.{◌≡◌, ℕ, List, Result, ap, ◌∙◌}
 use Rattle.row.specs.declared.fault.Refusal.{Refusal}
 use Rattle.requests.specs.Requests.{Request}
-use Rattle.compose.specs.Composed.{bytes_or, composing, length_or, zeroed_or}
+use Rattle.compose.specs.Composed.{composing, zeroed_or}
+use Rattle.compose.specs.Drafts.{bytes_or, length_or}
 use Rattle.compose.specs.Written.{Pair}
 use Rattle.request.specs.Anew.{Anew, name_for, pairs_for}
 

@@ -25,11 +25,11 @@ use Rattle.requests.specs.declared.name.Parameter.{Parameter}
 use Rattle.requests.specs.declared.name.Parameter.TheVariants.{Cid, User, Session, RequestId, Operation, SubscriptionId, Group}
 use Rattle.requests.proofs.Asking.{reads-asked}
 use Rattle.requests.proofs.Forming.{takes-in}
-use Rattle.compose.specs.Composed.{are_short, compose_answer, composed_or, composes, composing, zeroed_or}
+use Rattle.compose.specs.Composed.{composing, zeroed_or}
 use Rattle.compose.specs.ReadBack.{Keeps, value_in}
 use Rattle.compose.specs.Written.{Pair, given_by, written}
-use Rattle.compose.proofs.ReadingBack.{reads-back, written-short}
-use Rattle.compose.proofs.Rooms.{composes-all}
+use Rattle.compose.proofs.ReadingBack.{keeps-fit, reads-back, within-limit}
+use Rattle.compose.proofs.Rooms.{keeps-composed}
 use Rattle.request.specs.Anew.{name_for, pairs_for}
 use Rattle.request.specs.Checking.{anew_text}
 use Rattle.request.specs.Same.{shown, ShowsSame}
@@ -152,10 +152,6 @@ module _ (session : ℕ) where
       (same-delete r right.0 (fine-found gs RequestId sound) n low high (subst Fine is (fine-found gs SubscriptionId sound)))
   same_read gs sound ForceRebind right = same-rebind _ right.0 (fine-found gs RequestId sound)
 
-are-short : (xs : List Pair) → AllByRecursion (λ x. length x.value ≤ value_limit) xs → are_short xs ≡ true
-are-short [] h = refl
-are-short (x ∷ xs) h = and_from _ _ (le-leb (length x.value) value_limit h.0) (are-short xs h.1)
-
 -- a request that keeps the rules finds its room
 same-written : (session : ℕ) (q : Request) → Same session q → anew_text session q ≡ Ok (written (name_for q) (pairs_for session q))
 same-written session q same =
@@ -164,13 +160,9 @@ same-written session q same =
     let xs = pairs_for session q in
     let out = replicate request_limit 0 in
     let text = written name xs in
-    let known = All-weaker (λ x. is_in x.parameter (takes same.form) ≡ true) (λ x. is_in x.parameter (parameters_of name) ≡ true) (λ x. takes-in k.formed x.parameter) xs k.only in
-    let short : length text ≤ request_limit = written-short name same.form xs k.short k.apart k.only in
-    let room : fits 0 text out ≡ true = le-leb (0 + length text) (length out) (omega (arith, short, length-replicate {A = ℕ} request_limit 0)) in
-    let can : composes name xs out ≡ true = and_from _ _ (are-short xs k.short) room in
-    let (answer, left) = composes-all name xs out known k.apart in
-    sym (text_of (composing name xs out) (zeroed_or name out) (compose_answer name xs out) (composed_or name xs out) (sym answer) (sym left))
-    ∙ (λ i. result_map_both (λ n. take n (cond-true (composes name xs out) (padded (length out) text) (zeroed_or name out) can i)) (λ e. e) (cond-true (composes name xs out) (Ok (length text)) (Err no_room) can i))
+    let room : length text ≤ length out = omega (arith, within-limit name xs (keeps-fit k), length-replicate {A = ℕ} request_limit 0) in
+    let (answer, left) = keeps-composed k out room in
+    sym (text_of (composing name xs out) (zeroed_or name out) (Ok (length text)) (padded (length out) text) (sym answer) (sym left))
     ∙ ap Ok (take_at text (replicate (length out - length text) 0) (length text) refl)
 
 pub shows_same : ShowsSame

@@ -8,8 +8,8 @@ use Rattle.requests.specs.declared.name.Name.{Name}
 use Rattle.requests.specs.declared.name.Name.TheVariants.{CreateSession, BindSession, Control}
 use Rattle.requests.specs.declared.name.Parameter.{Parameter}
 use Rattle.requests.specs.declared.name.Parameter.TheVariants.{Cid, User, Password, Session, RequestId, Operation, SubscriptionId, Group, Schema, Mode, Snapshot}
-use Rattle.compose.specs.Composed.{bytes_or, composing, length_or, zeroed_or}
-use Rattle.compose.specs.Drafts.{Draft}
+use Rattle.compose.specs.Composed.{composing, zeroed_or}
+use Rattle.compose.specs.Drafts.{Draft, bytes_or, length_or}
 use Rattle.compose.specs.Written.{Pair, pair}
 
 -- a pair that may be left out

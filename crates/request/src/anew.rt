@@ -23,7 +23,6 @@ fn create_anew(
     ensures { (session : ℕ) → Anew session (create (word_text cid) (option_map word_text user) (option_map word_text password)) out.old result out.new }
 {
     let mut request = RequestWriter::new(out, Name::CreateSession);
-    request.begin()?;
     request.add(Parameter::Cid, cid.text())?;
     if let Some(user) = user {
         request.add(Parameter::User, user.text())?;
@@ -31,7 +30,7 @@ fn create_anew(
     if password.is_some() {
         request.add(Parameter::Password, REDACTED)?;
     }
-    Ok(request.finish().len)
+    request.finish().map(|finished| finished.len)
 }
 
 fn bind_anew(out: &mut [u8], session: u32) -> Result<usize, Refusal>

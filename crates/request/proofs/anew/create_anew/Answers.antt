@@ -1,13 +1,15 @@
 use Rattle.std.proofs.Common.{◌≡◌, ℕ, cond, List, [], ◌∷◌, Some, None, Ok, Err, Option, sym, refl, ap, ◌∙◌, rules, codes}
 use Rattle.std.specs.Prelude.{is_some}
 use Rattle.std.specs.Option.{option_map}
+use Rattle.std.specs.Result.{result_map_both}
 use Rattle.std.proofs.lemmas.Bool.{cond-true, cond-false}
 use Rattle.std.proofs.lemmas.Result.{err_from_is_err_and}
 use Rattle.requests.specs.Read.{word_text}
 use Rattle.requests.specs.Requests.{create}
 use Rattle.requests.specs.declared.name.Name.TheVariants.{CreateSession}
 use Rattle.requests.specs.declared.name.Parameter.TheVariants.{Cid, User, Password}
-use Rattle.compose.specs.Drafts.{add_answer, add_to, begin_answer, begin_in, draft_of}
+use Rattle.compose.specs.Drafts.{add_answer, add_to}
+use Rattle.compose.specs.Writers.{draft_of}
 use Rattle.compose.specs.Written.{pair}
 use Rattle.request.specs.Anew.{optional, redacted}
 use Rattle.request.proofs.Adding.{Added, added-next, added-none, anew-finished, anew-refused}
@@ -19,16 +21,13 @@ ends : {xs ys zs : List ℕ} → ys ≡ zs → xs ≡ ys → xs ≡ zs
 ends p q = q ∙ p
 
 -- what the writer holds once it has begun, with the cid, and with the user if there is one
-begun : (c : After-is_some) → Added CreateSession c.args.out.now (λ ys. ys) (draft_of c.begin.new.self)
-begun c =
-    let h = c.in_ok-begin.ensures in
-    let new = c.new-request.ensures.draft in
-    added-none CreateSession c.args.out.now _ (h.draft ∙ ap begin_in new) (h.answer ∙ ap begin_answer new)
+begun : (c : After-is_some) → Added CreateSession c.args.out.now (λ ys. ys) (draft_of c.new-request.result)
+begun c = added-none CreateSession c.args.out.now _ c.new-request.ensures.draft
 
 with_cid : (c : After-is_some) → Added CreateSession c.args.out.now (λ ys. pair Cid (word_text c.args.cid) ∷ ys) (draft_of c.add.new.self)
 with_cid c =
     let h = c.in_ok-add.ensures in
-    let d = draft_of c.begin.new.self in
+    let d = draft_of c.new-request.result in
     added-next CreateSession c.args.out.now _ d _ (begun c) _ (h.draft ∙ ap (λ t. add_to d (pair Cid t)) c.text.ensures) (h.answer ∙ ap (λ t. add_answer d (pair Cid t)) c.text.ensures)
 
 with_user : (c : After-is_some) → Added CreateSession c.args.out.now (λ ys. pair Cid (word_text c.args.cid) ∷ optional User (option_map word_text c.args.user) ys) (draft_of c.match-user.request)
@@ -45,7 +44,7 @@ with_user c =
 -- the writer still has the same bytes
 lent : (c : After-is_some) → c.match-user.request.out.ghost_name ≡ c.new-request.result.out.ghost_name
 lent c =
-    let first = c.in_ok-add.ensures.lent ∙ c.in_ok-begin.ensures.lent in
+    let first = c.in_ok-add.ensures.lent in
     elim c.match-user.branch [
       | in-Some+in_ok-add-2 w ↦ ap (λ r. r.out.ghost_name) w.request-is ∙ w.in_ok-add-2.ensures.lent ∙ first
       | in_default w ↦ ap (λ r. r.out.ghost_name) w.request-is ∙ first
@@ -86,4 +85,5 @@ returns c session =
       | then-is_some+in_ok-add-3 w ↦ ap (λ r. r.out.ghost_name) w.request-is ∙ w.in_ok-add-3.ensures.lent ∙ lent b
       | else-is_some w ↦ ap (λ r. r.out.ghost_name) w.request-is ∙ lent b
     ] in
-    anew-finished session (create cid user (option_map word_text c.args.password)) c.args.out.now _ (draft_of c.if-is_some.request) all _ _ refl (ap Ok c.finish.ensures.len) (ends c.finish.ensures.bytes (search rules))
+    let len : c.map.result ≡ result_map_both (λ f. f.len) (λ e. e) c.finish.result = search rules in
+    anew-finished session (create cid user (option_map word_text c.args.password)) c.args.out.now _ (draft_of c.if-is_some.request) all _ _ refl (len ∙ c.finish.ensures.answer) (ends c.finish.ensures.bytes (search rules))
