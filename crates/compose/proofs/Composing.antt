@@ -12,8 +12,8 @@ use Rattle.requests.specs.Asked.{found}
 use Rattle.requests.specs.Limits.{value_limit}
 use Rattle.requests.specs.Names.{index_of, is_in, parameter_count, parameters_of}
 use Rattle.requests.specs.declared.name.Name.{Name}
-use Rattle.compose.specs.Written.{Pair, given_by, head_text, written}
-use Rattle.compose.specs.Drafts.{Draft, unbegun, fresh, begin, is_open, addition, has_room, with_pair, add_answer, add_to, bytes_or, closed, finished, finished_len, left_by, length_or}
+use Rattle.compose.specs.Written.{Assignment, given_by, head_text, written}
+use Rattle.compose.specs.Drafts.{Draft, unbegun, fresh, begin, is_open, addition, has_room, with_pair, add_answer, add_to, bytes_or, closed, ending, request_len, left_by, length_or}
 use Rattle.compose.specs.Held.{Holds, finish_answer, finish_bytes}
 use Rattle.compose.specs.Composed.{add_all, are_short, composes, compose_answer, composed_or, composing, zeroed_or}
 use Rattle.compose.proofs.Holding.{written-push, length-padded, holds-finished, holds-fresh, holds_more, size-more}
@@ -21,26 +21,26 @@ use Rattle.compose.proofs.Holding.{written-push, length-padded, holds-finished, 
 pub length-placed : (at : ℕ) (t xs : List ℕ) → at + length t ≤ length xs → length (placed at t xs) ≡ length xs
 length-placed at t xs room = let h : at ≤ length xs = omega arith in simp (length-append, length-take-le, length-drop) (omega arith)
 
-written-front : (name : Name) (xs ys : List Pair) → length (written name xs) ≤ length (written name (xs ++ ys))
+written-front : (name : Name) (xs ys : List Assignment) → length (written name xs) ≤ length (written name (xs ++ ys))
 written-front name xs [] = omega (arith, ap (λ l. length (written name l)) (append-nil xs))
 written-front name xs (y ∷ ys) =
     let one = ap length (written-push name xs y) ∙ length-append (written name xs) _ in
     omega (arith, written-front name (xs ++ y ∷ []) ys, ap (λ l. length (written name l)) (append_assoc xs (y ∷ []) ys))
 
-written-head : (name : Name) (xs : List Pair) → length (head_text name) ≤ length (written name xs)
+written-head : (name : Name) (xs : List Assignment) → length (head_text name) ≤ length (written name xs)
 written-head name xs = omega (arith, written-front name [] xs, ap length (append-nil (head_text name)))
 
-not_short : (xs : List Pair) (x : Pair) (ys : List Pair) → leb (length x.value) value_limit ≡ false → are_short (xs ++ x ∷ ys) ≡ false
+not_short : (xs : List Assignment) (x : Assignment) (ys : List Assignment) → leb (length x.value) value_limit ≡ false → are_short (xs ++ x ∷ ys) ≡ false
 not_short [] x ys long = and_left _ _ long
 not_short (y ∷ xs) x ys long = and_right (leb (length y.value) value_limit) _ (not_short xs x ys long)
 
-pub are-short : (xs : List Pair) → AllByRecursion (λ x. length x.value ≤ value_limit) xs → are_short xs ≡ true
+pub are-short : (xs : List Assignment) → AllByRecursion (λ x. length x.value ≤ value_limit) xs → are_short xs ≡ true
 are-short [] h = refl
 are-short (x ∷ xs) h = and_from _ _ (le-leb (length x.value) value_limit h.0) (are-short xs h.1)
 
 -- a writer that is finished leaves the request, and one that is refused what it would leave anyway
-pub closed-left : (d : Draft) (other : List ℕ) → d.kept ≡ false → left_by d ≡ other → left_by (closed d) ≡ bytes_or other (finished d)
-closed-left d other unkept left = by (finished_len d.name d.begun d.len)
+pub closed-left : (d : Draft) (other : List ℕ) → d.kept ≡ false → left_by d ≡ other → left_by (closed d) ≡ bytes_or other (ending d)
+closed-left d other unkept left = by (request_len d.name d.begun d.len)
   where
     bare : (b : Bool) → cond (b && false) (replicate (length d.bytes) 0) d.bytes ≡ d.bytes
     bare true = refl
@@ -56,17 +56,17 @@ settled f = cond f (Ok tt) (Err no_room)
 
 module _ (name : Name) (out : List ℕ) where
   -- the answer and the bytes of a request with the pairs xs
-  abbrev pub Composed : Result Draft Refusal → List Pair → Type 0
+  abbrev pub Composed : Result Draft Refusal → List Assignment → Type 0
   Composed r xs = (length_or r ≡ compose_answer name xs out) × (bytes_or (zeroed_or name out) r ≡ composed_or name xs out)
 
   -- a request in these bytes with the pairs xs so far
-  pub record Reached (d : Draft) (xs : List Pair) : Type 0 where
+  pub record Reached (d : Draft) (xs : List Assignment) : Type 0 where
     pub holds : Holds d xs
     pub named : d.name ≡ name
     pub long : length d.bytes ≡ length out
     pub fit : fits 0 (head_text name) out ≡ true
 
-  pub not-composed : (xs : List Pair) → composes name xs out ≡ false → Composed (Err no_room) xs
+  pub not-composed : (xs : List Assignment) → composes name xs out ≡ false → Composed (Err no_room) xs
   not-composed xs never = (sym (cond-false _ _ _ never), sym (cond-false _ _ _ never))
 
   pub begin-reached : fits 0 (head_text name) out ≡ true → Reached (begin name out) []
@@ -77,18 +77,18 @@ module _ (name : Name) (out : List ℕ) where
       (record { holds = holds-fresh name (length out) room; named = refl; long = length-padded (length out) (head_text name) room; fit = fit })
 
   -- a name that does not fit is refused before all pairs, whatever they are
-  pub begin-refused : (xs : List Pair) → fits 0 (head_text name) out ≡ false → Composed (composing name xs out) xs
+  pub begin-refused : (xs : List Assignment) → fits 0 (head_text name) out ≡ false → Composed (composing name xs out) xs
   begin-refused xs none =
       let less : length out < 0 + length (written name xs) = omega (arith, leb-false _ _ none, written-head name xs) in
       let never = not-composed xs (and_right (are_short xs) _ (lt-leb _ _ less)) in
-      subst (λ d. Composed (and_then (add_all d xs) finished) xs) (sym (cond-false _ _ _ none)) (by xs never)
+      subst (λ d. Composed (and_then (add_all d xs) ending) xs) (sym (cond-false _ _ _ none)) (by xs never)
     where
-      by : (ys : List Pair) → Composed (Err no_room) xs → Composed (and_then (add_all (unbegun name out) ys) finished) xs
+      by : (ys : List Assignment) → Composed (Err no_room) xs → Composed (and_then (add_all (unbegun name out) ys) ending) xs
       by [] never = never
       by (y ∷ ys) never = never
 
   -- the next pair, of a parameter that the name has and no pair before
-  module _ (d : Draft) (xs : List Pair) (x : Pair) (known : is_in x.parameter (parameters_of name) ≡ true) (new : is_some (found (map given_by xs) x.parameter) ≡ false) (h : Reached d xs) where
+  module _ (d : Draft) (xs : List Assignment) (x : Assignment) (known : is_in x.parameter (parameters_of name) ≡ true) (new : is_some (found (map given_by xs) x.parameter) ≡ false) (h : Reached d xs) where
     opens : is_open d x.parameter ≡ true
     opens = and_from _ _ (ap (λ n. is_in x.parameter (parameters_of n)) h.named ∙ known) (ap not (h.holds.added x.parameter ∙ new))
 
@@ -111,7 +111,7 @@ module _ (name : Name) (out : List ℕ) where
         subst (λ f. Reached f (xs ++ x ∷ [])) (sym (added-to true room))
         (record { holds = more; named = h.named; long = long; fit = h.fit })
 
-    pub add-refused : (rest : List Pair) → has_room d x ≡ false → Composed (Err no_room) (xs ++ x ∷ rest)
+    pub add-refused : (rest : List Assignment) → has_room d x ≡ false → Composed (Err no_room) (xs ++ x ∷ rest)
     add-refused rest room =
         let more = written-front name (xs ++ x ∷ []) rest in
         let whole = ap (λ l. length (written name l)) (append_assoc xs (x ∷ []) rest) in
@@ -120,10 +120,10 @@ module _ (name : Name) (out : List ℕ) where
         (λ full. and_right (are_short (xs ++ x ∷ rest)) _ (lt-leb _ _ (omega (arith, leb-false _ _ full, size, h.long, more, whole))))
         (and_cases (leb (length x.value) value_limit) fit room))
 
-  reached-left : (d : Draft) (xs : List Pair) → Reached d xs → left_by d ≡ zeroed_or name out
+  reached-left : (d : Draft) (xs : List Assignment) → Reached d xs → left_by d ≡ zeroed_or name out
   reached-left d xs h = (λ i. cond (h.holds.begun i && not (h.holds.unkept i)) (replicate (h.long i) 0) d.bytes) ∙ sym (cond-true _ _ _ h.fit)
 
-  pub finish-composed : (d : Draft) (xs : List Pair) → Reached d xs → Composed (finished d) xs
+  pub finish-composed : (d : Draft) (xs : List Assignment) → Reached d xs → Composed (ending d) xs
   finish-composed d xs h =
       let (answer, bytes) = holds-finished d xs h.holds in
       let t = written d.name xs in

@@ -15,8 +15,8 @@ use Rattle.requests.specs.Asked.{Given, spelling, found, Apart}
 use Rattle.requests.specs.Names.{index_of, is_in, parameter_count, parameters_of, parameter_word}
 use Rattle.requests.specs.declared.name.Name.{Name}
 use Rattle.requests.specs.declared.name.Parameter.{Parameter}
-use Rattle.compose.specs.Written.{Pair, given_by, head_text, pair_text, written}
-use Rattle.compose.specs.Drafts.{Draft, fresh, is_fresh, is_open, addition, has_room, with_pair, open_answer, unfit, add_answer, add_to, closed, finished, finished_len, left_by, length_or}
+use Rattle.compose.specs.Written.{Assignment, given_by, head_text, pair_text, written}
+use Rattle.compose.specs.Drafts.{Draft, fresh, is_fresh, is_open, addition, has_room, with_pair, open_answer, bad_part, add_answer, add_to, closed, ending, request_len, left_by, length_or}
 use Rattle.compose.specs.Held.{Stands, Holds, finish_answer, finish_bytes, pairs_after}
 
 pub length-padded : (n : ℕ) (t : List ℕ) → length t ≤ n → length (padded n t) ≡ n
@@ -40,17 +40,17 @@ joined-first s = append-nil s
 joined-next : (t : List ℕ) (ts : List (List ℕ)) (s : List ℕ) → joined_by 38 ((t ∷ ts) ++ s ∷ []) ≡ joined_by 38 (t ∷ ts) ++ (38 ∷ s)
 joined-next t ts s = sym (flat_map_more (λ u. 38 ∷ u) t ts s)
 
-abbrev texts : List Pair → List (List ℕ)
+abbrev texts : List Assignment → List (List ℕ)
 texts xs = map spelling (map given_by xs)
 
-texts-push : (xs : List Pair) (x : Pair) → texts (xs ++ x ∷ []) ≡ texts xs ++ spelling (given_by x) ∷ []
+texts-push : (xs : List Assignment) (x : Assignment) → texts (xs ++ x ∷ []) ≡ texts xs ++ spelling (given_by x) ∷ []
 texts-push xs x = ap (map spelling) (map_push given_by xs x) ∙ map_push spelling (map given_by xs) (given_by x)
 
-abbrev pub is_none : List Pair → Bool
+abbrev pub is_none : List Assignment → Bool
 is_none [] = true
 is_none (x ∷ xs) = false
 
-pub written-push : (name : Name) (xs : List Pair) (x : Pair) → written name (xs ++ x ∷ []) ≡ written name xs ++ pair_text (is_none xs) x
+pub written-push : (name : Name) (xs : List Assignment) (x : Assignment) → written name (xs ++ x ∷ []) ≡ written name xs ++ pair_text (is_none xs) x
 written-push name [] x = ap (λ t. head_text name ++ t) (joined-first (spelling (given_by x))) ∙ ap (λ t. t ++ spelling (given_by x)) (sym (append-nil (head_text name)))
 written-push name (y ∷ xs) x =
     ap (λ ts. head_text name ++ joined_by 38 (spelling (given_by y) ∷ ts)) (texts-push xs x)
@@ -58,7 +58,7 @@ written-push name (y ∷ xs) x =
     ∙ sym (append_assoc (head_text name) (joined_by 38 (texts (y ∷ xs))) _)
 
 -- only the name is written exactly where there is no pair
-pub fresh-none : (name : Name) (xs : List Pair) (n : ℕ) → n ≡ length (written name xs) → eqb n (length (head_text name)) ≡ is_none xs
+pub fresh-none : (name : Name) (xs : List Assignment) (n : ℕ) → n ≡ length (written name xs) → eqb n (length (head_text name)) ≡ is_none xs
 fresh-none name [] n is = eq-eqb n _ (is ∙ ap length (append-nil (head_text name)))
 fresh-none name (x ∷ xs) n is =
     ne_eqb n _ (λ e.
@@ -102,7 +102,7 @@ apart-push (f ∷ gs) g a new =
     by true e = absurd (both_ways true e refl)
     by false e = (refl, e)
 
-all-push : (P : Pair → Type 0) (xs : List Pair) (x : Pair) → AllByRecursion P xs → P x → AllByRecursion P (xs ++ x ∷ [])
+all-push : (P : Assignment → Type 0) (xs : List Assignment) (x : Assignment) → AllByRecursion P xs → P x → AllByRecursion P (xs ++ x ∷ [])
 all-push P [] x all one = (one, tt)
 all-push P (y ∷ xs) x all one = (all.0, all-push P xs x all.1 one)
 
@@ -125,23 +125,23 @@ holds-fresh name n room =
     none p = ⊎_elim (get_or-replicate parameter_count (index_of p) false false) (get_or_past (replicate parameter_count false) (index_of p) false) (cases_lt (index_of p) parameter_count)
 
 -- a request is finished with its length
-pub finished-length : (d : Draft) → length_or (finished d) ≡ finished_len d.name d.begun d.len
+pub finished-length : (d : Draft) → length_or (ending d) ≡ request_len d.name d.begun d.len
 finished-length d = by d.begun (is_fresh d)
   where
-    by : (b f : Bool) → length_or (result_map_both (λ _. d) (λ e. e) (cond b (cond f (Err unfit) (Ok d.len)) (Err no_room))) ≡ cond b (cond f (Err unfit) (Ok d.len)) (Err no_room)
+    by : (b f : Bool) → length_or (result_map_both (λ _. d) (λ e. e) (cond b (cond f (Err bad_part) (Ok d.len)) (Err no_room))) ≡ cond b (cond f (Err bad_part) (Ok d.len)) (Err no_room)
     by true true = refl
     by true false = refl
     by false f = refl
 
-pub ok-finished : (d : Draft) → is_ok (finished d) ≡ is_ok (finished_len d.name d.begun d.len)
-ok-finished d = by (finished_len d.name d.begun d.len)
+pub ok-finished : (d : Draft) → is_ok (ending d) ≡ is_ok (request_len d.name d.begun d.len)
+ok-finished d = by (request_len d.name d.begun d.len)
   where
     by : (r : Result ℕ Refusal) → is_ok (result_map_both (λ _. d) (λ e. e) r) ≡ is_ok r
     by (Ok n) = refl
     by (Err e) = refl
 
 -- one more pair
-module _ (d : Draft) (x : Pair) (xs : List Pair) (h : Holds d xs) where
+module _ (d : Draft) (x : Assignment) (xs : List Assignment) (h : Holds d xs) where
   text-more : written d.name xs ++ addition d x ≡ written d.name (xs ++ x ∷ [])
   text-more = ap (λ b. written d.name xs ++ pair_text b x) (fresh-none d.name xs d.len h.request.size) ∙ sym (written-push d.name xs x)
 
@@ -203,23 +203,23 @@ module _ (d : Draft) (x : Pair) (xs : List Pair) (h : Holds d xs) where
       coe 1 0 (i. Holds (left i) (pairs_after (answer i) xs x))
       (coe 1 0 (i. Holds (cond (h.begun i && (is_open d x.parameter && has_room d x)) (with_pair d x) d) (pairs_after (cond (h.begun i) (open_answer d x) (Err no_room)) xs x)) all)
     where
-      by : (o b : Bool) → is_open d x.parameter ≡ o → has_room d x ≡ b → Holds (cond (o && b) (with_pair d x) d) (pairs_after (cond o (cond b (Ok tt) (Err no_room)) (Err unfit)) xs x)
+      by : (o b : Bool) → is_open d x.parameter ≡ o → has_room d x ≡ b → Holds (cond (o && b) (with_pair d x) d) (pairs_after (cond o (cond b (Ok tt) (Err no_room)) (Err bad_part)) xs x)
       by true true new room = holds_more small new room
       by true false new room = h
       by false true new room = h
       by false false new room = h
 
 -- a request with these pairs, finished
-pub holds-finished : (d : Draft) (xs : List Pair) → Holds d xs → (length_or (finished d) ≡ finish_answer d.name xs) × (left_by (closed d) ≡ finish_bytes d.name xs (length d.bytes))
+pub holds-finished : (d : Draft) (xs : List Assignment) → Holds d xs → (length_or (ending d) ≡ finish_answer d.name xs) × (left_by (closed d) ≡ finish_bytes d.name xs (length d.bytes))
 holds-finished d xs h =
-    let r = finished_len d.name d.begun d.len in
-    let is : r ≡ cond (is_none xs) (Err unfit) (Ok d.len) =
-    ap (λ b. cond b (cond (is_fresh d) (Err unfit) (Ok d.len)) (Err no_room)) h.begun ∙ ap (λ b. cond b (Err unfit) (Ok d.len)) (fresh-none d.name xs d.len h.request.size) in
-    let left : left_by (closed d) ≡ cond (not (is_ok (cond (is_none xs) (Err unfit) (Ok d.len)))) (replicate (length d.bytes) 0) d.bytes =
+    let r = request_len d.name d.begun d.len in
+    let is : r ≡ cond (is_none xs) (Err bad_part) (Ok d.len) =
+    ap (λ b. cond b (cond (is_fresh d) (Err bad_part) (Ok d.len)) (Err no_room)) h.begun ∙ ap (λ b. cond b (Err bad_part) (Ok d.len)) (fresh-none d.name xs d.len h.request.size) in
+    let left : left_by (closed d) ≡ cond (not (is_ok (cond (is_none xs) (Err bad_part) (Ok d.len)))) (replicate (length d.bytes) 0) d.bytes =
     ap (λ k. left_by (record d { kept = k })) (ok-finished d) ∙ (λ i. cond (h.begun i && not (is_ok (is i))) (replicate (length d.bytes) 0) d.bytes) in
     by xs refl (finished-length d ∙ is) left
   where
-    by : (ys : List Pair) → ys ≡ xs → length_or (finished d) ≡ cond (is_none ys) (Err unfit) (Ok d.len) → left_by (closed d) ≡ cond (not (is_ok (cond (is_none ys) (Err unfit) (Ok d.len)))) (replicate (length d.bytes) 0) d.bytes → (length_or (finished d) ≡ finish_answer d.name ys) × (left_by (closed d) ≡ finish_bytes d.name ys (length d.bytes))
+    by : (ys : List Assignment) → ys ≡ xs → length_or (ending d) ≡ cond (is_none ys) (Err bad_part) (Ok d.len) → left_by (closed d) ≡ cond (not (is_ok (cond (is_none ys) (Err bad_part) (Ok d.len)))) (replicate (length d.bytes) 0) d.bytes → (length_or (ending d) ≡ finish_answer d.name ys) × (left_by (closed d) ≡ finish_bytes d.name ys (length d.bytes))
     by [] same answer bytes = (answer, bytes)
     by (y ∷ ys) same answer bytes = (
       answer ∙ ap Ok (h.request.size ∙ ap (λ l. length (written d.name l)) (sym same)),

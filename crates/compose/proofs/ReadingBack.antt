@@ -19,7 +19,7 @@ use Rattle.requests.specs.declared.name.Name.{Name}
 use Rattle.requests.specs.declared.name.Name.TheVariants.{CreateSession, BindSession, Control}
 use Rattle.requests.specs.declared.name.Parameter.{Parameter}
 use Rattle.requests.specs.declared.name.Parameter.TheVariants.{Cid, User, Password, Session, RequestId, Operation, SubscriptionId, Group, Schema, Mode, Snapshot}
-use Rattle.compose.specs.Written.{Pair, given_by, head_text, written}
+use Rattle.compose.specs.Written.{Assignment, given_by, head_text, written}
 use Rattle.compose.specs.Held.{Fits, WithinLimit}
 use Rattle.compose.specs.ReadBack.{Keeps, value_in, ReadsBack}
 
@@ -97,14 +97,14 @@ word-short Mode = lit≤ tt
 word-short Snapshot = lit≤ tt
 
 -- a pair and the `&` before it take at most 205 bytes, of them 192 for a value of 64
-pairs-short : (xs : List Pair) → AllByRecursion (λ x. length x.value ≤ value_limit) xs → length (each_behind 38 (map spelling (map given_by xs))) ≤ 205 * length xs
+pairs-short : (xs : List Assignment) → AllByRecursion (λ x. length x.value ≤ value_limit) xs → length (each_behind 38 (map spelling (map given_by xs))) ≤ 205 * length xs
 pairs-short [] h = omega arith
 pairs-short (x ∷ xs) h =
     let rest = each_behind 38 (map spelling (map given_by xs)) in
     let value = encoded_by is_reserved x.value in
     omega (arith, length-append (spelling (given_by x)) rest, length-append (parameter_word x.parameter) (61 ∷ value), word-short x.parameter, length-by is_reserved x.value, h.0, pairs-short xs h.1)
 
-only-given : (xs : List Pair) (ps : List Parameter) → AllByRecursion (λ x. is_in x.parameter ps ≡ true) xs → AllByRecursion (λ g. is_in g.parameter ps ≡ true) (map given_by xs)
+only-given : (xs : List Assignment) (ps : List Parameter) → AllByRecursion (λ x. is_in x.parameter ps ≡ true) xs → AllByRecursion (λ g. is_in g.parameter ps ≡ true) (map given_by xs)
 only-given [] ps h = tt
 only-given (x ∷ xs) ps h = (h.0, only-given xs ps h.1)
 
@@ -134,7 +134,7 @@ plain_by (b ∷ t) h = by (is_reserved b) refl h.0 (plain_by t h.1)
 reserved-percent : (b : ℕ) → is_reserved b ≡ false → eqb b 37 ≡ false
 reserved-percent b e = grind (arith, nat_tests)
 
-sound-given : (xs : List Pair) → AllByRecursion (λ x. AllByRecursion (λ b. b < 256) x.value) xs → AllByRecursion (λ x. length x.value ≤ value_limit) xs → AllByRecursion Sound (map given_by xs)
+sound-given : (xs : List Assignment) → AllByRecursion (λ x. AllByRecursion (λ b. b < 256) x.value) xs → AllByRecursion (λ x. length x.value ≤ value_limit) xs → AllByRecursion Sound (map given_by xs)
 sound-given [] bytes short = tt
 sound-given (x ∷ xs) bytes short = (
   record { plain = plain_by x.value bytes.0; decodes = decodes-by is_reserved reserved-percent x.value bytes.0; short = short.0 },
@@ -142,7 +142,7 @@ sound-given (x ∷ xs) bytes short = (
 )
 
 -- pairs of a form are of its name
-pub keeps-fit : {session : ℕ} {name : Name} {form : Form} {xs : List Pair} → Keeps session name form xs → Fits name xs
+pub keeps-fit : {session : ℕ} {name : Name} {form : Form} {xs : List Assignment} → Keeps session name form xs → Fits name xs
 keeps-fit {name = name} {form = form} {xs = xs} k = record {
   known = All-weaker (λ x. is_in x.parameter (takes form) ≡ true) (λ x. is_in x.parameter (parameters_of name) ≡ true) (λ x. takes-in k.formed x.parameter) xs k.only;
   apart = k.apart;

@@ -8,10 +8,10 @@ use Rattle.tlcp.specs.Written.{fits}
 use Rattle.requests.specs.Limits.{value_limit}
 use Rattle.requests.specs.declared.name.Name.{Name}
 use Rattle.compose.specs.Composed.{add_all, composing, zeroed_or}
-use Rattle.compose.specs.Drafts.{Draft, add_answer, add_to, addition, begin, bytes_or, closed, finished, fresh, has_room, is_open, left_by, unbegun, with_pair}
-use Rattle.compose.specs.Pairs.{pair_in, pairs_in}
-use Rattle.compose.specs.Written.{Pair, head_text}
-use Rattle.compose.specs.declared.pair.Pair as memory
+use Rattle.compose.specs.Drafts.{Draft, add_answer, add_to, addition, begin, bytes_or, closed, ending, fresh, has_room, is_open, left_by, unbegun, with_pair}
+use Rattle.compose.specs.Assignments.{assignment_in, assignments_in}
+use Rattle.compose.specs.Written.{Assignment, head_text}
+use Rattle.compose.specs.declared.assignment.Assignment as memory
 use Rattle.compose.proofs.Composing.{closed-left, length-placed}
 use Rattle.compose.proofs.Holding.{length-padded}
 
@@ -31,7 +31,7 @@ open-begin name out = by (fits 0 (head_text name) out) refl
     by false none = record { unkept = refl; left = sym (cond-false _ _ _ none) }
 
 -- a pair changes neither what is left nor whether it is kept
-pub open-add : (name : Name) (out : List ℕ) (d : Draft) (x : Pair) → Open name out d → Open name out (add_to d x)
+pub open-add : (name : Name) (out : List ℕ) (d : Draft) (x : Assignment) → Open name out d → Open name out (add_to d x)
 open-add name out d x h = cond_both (d.begun && (is_open d x.parameter && has_room d x)) (with_pair d x) d (Open name out) (λ adds. more adds) (λ _. h)
   where
     more : (d.begun && (is_open d x.parameter && has_room d x)) ≡ true → Open name out (with_pair d x)
@@ -44,14 +44,14 @@ open-add name out d x h = cond_both (d.begun && (is_open d x.parameter && has_ro
         record { unkept = h.unkept; left = zeros (with_pair d x).bytes ∙ ap (λ n. replicate n 0) long ∙ sym (zeros d.bytes) ∙ h.left }
 
 -- a draft that has come to the place i of the pairs, from the one that was begun
-pub record Comes (name : Name) (out : List ℕ) (d : Draft) (xs : List Pair) (i : ℕ) : Type 0 where
+pub record Comes (name : Name) (out : List ℕ) (d : Draft) (xs : List Assignment) (i : ℕ) : Type 0 where
   pub all : add_all (begin name out) xs ≡ add_all d (drop i xs)
   pub here : Open name out d
 
-pub comes-first : (name : Name) (out : List ℕ) (d : Draft) (xs : List Pair) → d ≡ begin name out → Comes name out d xs 0
+pub comes-first : (name : Name) (out : List ℕ) (d : Draft) (xs : List Assignment) → d ≡ begin name out → Comes name out d xs 0
 comes-first name out d xs is = coe 1 0 (i. Comes name out (is i) xs 0) (record { all = refl; here = open-begin name out })
 
-module _ (name : Name) (out : List ℕ) (d : Draft) (xs : List Pair) (i : ℕ) (x : Pair) (c : Comes name out d xs i) (h : i < length xs) (is : x ≡ get_or xs i x) where
+module _ (name : Name) (out : List ℕ) (d : Draft) (xs : List Assignment) (i : ℕ) (x : Assignment) (c : Comes name out d xs i) (h : i < length xs) (is : x ≡ get_or xs i x) where
   next : add_all (begin name out) xs ≡ and_then (add_answer d x) (λ _. add_all (add_to d x) (drop (i + 1) xs))
   next = c.all ∙ at_drop_more (add_all d) xs i x h ∙ ap (λ y. and_then (add_answer d y) (λ _. add_all (add_to d y) (drop (i + 1) xs))) (sym is)
 
@@ -64,20 +64,20 @@ module _ (name : Name) (out : List ℕ) (d : Draft) (xs : List Pair) (i : ℕ) (
   pub comes-refused : (r : Refusal) → Err r ≡ add_answer d x → add_all (begin name out) xs ≡ Err r
   comes-refused r answer = next ∙ ap (λ q. and_then q (λ _. add_all (add_to d x) (drop (i + 1) xs))) (sym answer)
 
-comes-all : (name : Name) (out : List ℕ) (d : Draft) (xs : List Pair) (i : ℕ) → Comes name out d xs i → length xs ≤ i → add_all (begin name out) xs ≡ Ok d
+comes-all : (name : Name) (out : List ℕ) (d : Draft) (xs : List Assignment) (i : ℕ) → Comes name out d xs i → length xs ≤ i → add_all (begin name out) xs ≡ Ok d
 comes-all name out d xs i c h = c.all ∙ at_drop_all (add_all d) xs i h
 
 -- and then it is finished
-pub comes-finished : (name : Name) (out : List ℕ) (d : Draft) (xs : List Pair) (i : ℕ) → Comes name out d xs i → length xs ≤ i → finished d ≡ composing name xs out
-comes-finished name out d xs i c h = ap (λ r. and_then r finished) (sym (comes-all name out d xs i c h))
+pub comes-finished : (name : Name) (out : List ℕ) (d : Draft) (xs : List Assignment) (i : ℕ) → Comes name out d xs i → length xs ≤ i → ending d ≡ composing name xs out
+comes-finished name out d xs i c h = ap (λ r. and_then r ending) (sym (comes-all name out d xs i c h))
 
 -- what is left of it is the request, or what is left without one
-pub finished-left : (name : Name) (out : List ℕ) (d : Draft) (r : Result Draft Refusal) → Open name out d → finished d ≡ r → left_by (closed d) ≡ bytes_or (zeroed_or name out) r
+pub finished-left : (name : Name) (out : List ℕ) (d : Draft) (r : Result Draft Refusal) → Open name out d → ending d ≡ r → left_by (closed d) ≡ bytes_or (zeroed_or name out) r
 finished-left name out d r h is = closed-left d (zeroed_or name out) h.unkept h.left ∙ ap (bytes_or (zeroed_or name out)) is
 
 -- a pair of memory
-pub item : (ps : List memory.Pair) (i : ℕ) (d : memory.Pair) → i < length ps → pair_in (get_or ps i d) ≡ get_or (pairs_in ps) i (pair_in (get_or ps i d))
-item ps i d h = sym (get_or-map pair_in ps i d (pair_in (get_or ps i d)) h)
+pub item : (ps : List memory.Assignment) (i : ℕ) (d : memory.Assignment) → i < length ps → assignment_in (get_or ps i d) ≡ get_or (assignments_in ps) i (assignment_in (get_or ps i d))
+item ps i d h = sym (get_or-map assignment_in ps i d (assignment_in (get_or ps i d)) h)
 
-pub as_many : (ps : List memory.Pair) → length (pairs_in ps) ≡ length ps
-as_many ps = length-map ps pair_in
+pub as_many : (ps : List memory.Assignment) → length (assignments_in ps) ≡ length ps
+as_many ps = length-map ps assignment_in

@@ -10,7 +10,7 @@ use Rattle.requests.specs.Limits.{value_limit}
 use Rattle.requests.specs.Names.{index_of, is_in, parameter_count, parameters_of}
 use Rattle.requests.specs.declared.name.Name.{Name}
 use Rattle.requests.specs.declared.name.Parameter.{Parameter}
-use Rattle.compose.specs.Written.{Pair, head_text, pair_text}
+use Rattle.compose.specs.Written.{Assignment, head_text, pair_text}
 
 -- the lent bytes, the name, whether it fitted, how many bytes are written, the parameters that
 -- were added, and whether the bytes outlive the writer
@@ -60,14 +60,14 @@ is_open d p =
     is_in p (parameters_of d.name) && not (slice_index_or d.given (index_of p) false)
 
 -- what a pair adds to the bytes
-abbrev pub addition : Draft → Pair → List ℕ
+abbrev pub addition : Draft → Assignment → List ℕ
 addition d x = pair_text (is_fresh d) x
 
 -- the value is within its limit, and the pair within the bytes
-abbrev pub has_room : Draft → Pair → Bool
+abbrev pub has_room : Draft → Assignment → Bool
 has_room d x = nat_le (length x.value) value_limit && fits d.len (addition d x) d.bytes
 
-abbrev pub with_pair : Draft → Pair → Draft
+abbrev pub with_pair : Draft → Assignment → Draft
 with_pair d x =
     record {
       bytes = placed d.len (addition d x) d.bytes;
@@ -79,29 +79,29 @@ with_pair d x =
     }
 
 -- a part of the request that is unknown, repeated or missing
-abbrev pub unfit : Refusal
-unfit = refusal Parts 0
+abbrev pub bad_part : Refusal
+bad_part = refusal Parts 0
 
 -- 6 for a parameter that is not open, and then 16 for want of room
-abbrev pub open_answer : Draft → Pair → Result (Unit {0}) Refusal
+abbrev pub open_answer : Draft → Assignment → Result (Unit {0}) Refusal
 open_answer d x =
-    cond (is_open d x.parameter) (cond (has_room d x) (Ok tt) (Err no_room)) (Err unfit)
+    cond (is_open d x.parameter) (cond (has_room d x) (Ok tt) (Err no_room)) (Err bad_part)
 
 -- 16 first of all where the name did not fit
-abbrev pub add_answer : Draft → Pair → Result (Unit {0}) Refusal
+abbrev pub add_answer : Draft → Assignment → Result (Unit {0}) Refusal
 add_answer d x = cond d.begun (open_answer d x) (Err no_room)
 
 -- a refused pair changes nothing
-abbrev pub add_to : Draft → Pair → Draft
+abbrev pub add_to : Draft → Assignment → Draft
 add_to d x = cond (d.begun && (is_open d x.parameter && has_room d x)) (with_pair d x) d
 
 -- a request has one or more pairs: 16 where the name did not fit, and 6 where only it is written
-abbrev pub finished_len : Name → Bool → ℕ → Result ℕ Refusal
-finished_len name begun len =
-    cond begun (cond (len == length (head_text name)) (Err unfit) (Ok len)) (Err no_room)
+abbrev pub request_len : Name → Bool → ℕ → Result ℕ Refusal
+request_len name begun len =
+    cond begun (cond (len == length (head_text name)) (Err bad_part) (Ok len)) (Err no_room)
 
-abbrev pub finished : Draft → Result Draft Refusal
-finished d = result_map_both (λ _. d) (λ e. e) (finished_len d.name d.begun d.len)
+abbrev pub ending : Draft → Result Draft Refusal
+ending d = result_map_both (λ _. d) (λ e. e) (request_len d.name d.begun d.len)
 
 -- what is left in the bytes when the writer goes: zeros, where something was written that is not
 -- to be kept
@@ -110,7 +110,7 @@ left_by d = cond (d.begun && not d.kept) (replicate (length d.bytes) 0) d.bytes
 
 -- the flag is set where the request is finished
 abbrev pub closed : Draft → Draft
-closed d = record d { kept = is_ok (finished d) }
+closed d = record d { kept = is_ok (ending d) }
 
 abbrev pub length_or : Result Draft Refusal → Result ℕ Refusal
 length_or = result_map_both (λ d. d.len) (λ e. e)

@@ -4,4 +4,4 @@ pub mod Writers
 pub mod Held
 pub mod Composed
 pub mod ReadBack
-pub mod Pairs
+pub mod Assignments

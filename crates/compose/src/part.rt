@@ -1,10 +1,10 @@
 //! The parts of a request, written into lent bytes.
 ghost use Rattle.std.specs.Prelude.{◌≡◌};
 ghost use Rattle.tlcp.specs.Written.{end_or, placed_or};
-ghost use Rattle.compose.specs.Pairs.{pair_in};
+ghost use Rattle.compose.specs.Assignments.{assignment_in};
 ghost use Rattle.compose.specs.Written.{head_text, joint_text, pair_text, padded_or};
 
-use crate::pair::Pair;
+use crate::assignment::Assignment;
 use requests::Name;
 use row::{Fault, Refusal};
 use tlcp::{Class, Worded, put, put_escaped};
@@ -34,10 +34,10 @@ pub(crate) fn put_pair(
     out: &mut [u8],
     at: usize,
     first: bool,
-    pair: Pair<'_>,
+    pair: Assignment<'_>,
 ) -> Result<usize, Refusal>
-    ensures answer { result ≡ end_or at (pair_text first (pair_in pair.entry)) out.old }
-    ensures bytes { out.new ≡ placed_or at (pair_text first (pair_in pair.entry)) out.old }
+    ensures answer { result ≡ end_or at (pair_text first (assignment_in pair.entry)) out.old }
+    ensures bytes { out.new ≡ placed_or at (pair_text first (assignment_in pair.entry)) out.old }
 {
     let before = joint(first);
     let word = pair.parameter.word();

@@ -3,13 +3,13 @@ ghost use Rattle.std.specs.Prelude.{◌≡◌, ◌≤◌, List, [], length, is_s
 ghost use Rattle.std.specs.Result.{result_map_both};
 ghost use Rattle.requests.specs.Limits.{request_limit};
 ghost use Rattle.compose.specs.Written as written;
-ghost use Rattle.compose.specs.Written.{head_text, pair};
-ghost use Rattle.compose.specs.Drafts.{add_answer, add_to, begin, closed, finished, finished_len, left_by, length_or};
+ghost use Rattle.compose.specs.Written.{assign, head_text};
+ghost use Rattle.compose.specs.Drafts.{add_answer, add_to, begin, closed, ending, request_len, left_by, length_or};
 ghost use Rattle.compose.specs.Writers.{draft_of, len_of};
 ghost use Rattle.compose.specs.Held.{Holds, WithinLimit, finish_answer, finish_bytes, pairs_after};
 ghost use Rattle.compose.specs.ReadBack.{ReadsBack};
 
-use crate::pair::Pair;
+use crate::assignment::Assignment;
 use crate::part::{put_head, put_pair};
 use requests::{Name, PARAMETER_COUNT, Parameter, VALUE_LIMIT, is_in};
 use row::{Fault, Refusal};
@@ -32,8 +32,8 @@ impl Begun {
 }
 
 // The length of a request, if it is one: its name fitted, and it has a pair.
-fn finished_len(begun: Option<Begun>, name: Name) -> Result<usize, Refusal>
-    ensures { result ≡ finished_len name (is_some begun) (len_of begun) }
+fn request_len(begun: Option<Begun>, name: Name) -> Result<usize, Refusal>
+    ensures { result ≡ request_len name (is_some begun) (len_of begun) }
 {
     let begun = begun.ok_or(Fault::Length.at(0))?;
     if begun.is_bare(name) {
@@ -109,9 +109,9 @@ impl<'a> RequestWriter<'a> {
     /// the name's or was added before, and then with 16 for a value of more than `VALUE_LIMIT`
     /// bytes or a pair that does not fit. A refused pair changes nothing.
     pub fn add(&mut self, parameter: Parameter, value: &[u8]) -> Result<(), Refusal>
-        ensures answer { result ≡ add_answer (draft_of self.old) (pair parameter value.now) }
-        ensures draft { draft_of self.new ≡ add_to (draft_of self.old) (pair parameter value.now) }
-        ensures pairs { (xs : List written.Pair) → Holds (draft_of self.old) xs → Holds (draft_of self.new) (pairs_after result xs (pair parameter value.now)) }
+        ensures answer { result ≡ add_answer (draft_of self.old) (assign parameter value.now) }
+        ensures draft { draft_of self.new ≡ add_to (draft_of self.old) (assign parameter value.now) }
+        ensures pairs { (xs : List written.Assignment) → Holds (draft_of self.old) xs → Holds (draft_of self.new) (pairs_after result xs (assign parameter value.now)) }
         ensures lent { self.new.out.ghost_name ≡ self.old.out.ghost_name }
     {
         let mut begun = self.begun.ok_or(Fault::Length.at(0))?;
@@ -123,7 +123,7 @@ impl<'a> RequestWriter<'a> {
             return Err(Fault::Length.at(0));
         }
         let first = begun.is_bare(self.name);
-        begun.len = put_pair(self.out, begun.len, first, Pair::new(parameter, value))?;
+        begun.len = put_pair(self.out, begun.len, first, Assignment::new(parameter, value))?;
         begun.given[i] = true;
         self.begun = Some(begun);
         Ok(())
@@ -135,10 +135,10 @@ impl<'a> RequestWriter<'a> {
     /// Refused with 16 where the name did not fit the bytes, which are then as they were, and with
     /// 6 where no pair was added; the bytes are then zeros.
     pub fn finish(self) -> Result<Finished, Refusal>
-        ensures answer { result_map_both (λ f. f.len) (λ e. e) result ≡ length_or (finished (draft_of self.entry)) }
+        ensures answer { result_map_both (λ f. f.len) (λ e. e) result ≡ length_or (ending (draft_of self.entry)) }
         ensures bytes { self.exit.0.now ≡ left_by (closed (draft_of self.entry)) }
-        ensures pairs { (xs : List written.Pair) → Holds (draft_of self.entry) xs → (result_map_both (λ f. f.len) (λ e. e) result ≡ finish_answer self.entry.name xs) × (self.exit.0.now ≡ finish_bytes self.entry.name xs (length self.entry.out.now)) }
-        ensures limit { (xs : List written.Pair) → Holds (draft_of self.entry) xs → IfOk result (λ f. f.len ≤ request_limit) }
+        ensures pairs { (xs : List written.Assignment) → Holds (draft_of self.entry) xs → (result_map_both (λ f. f.len) (λ e. e) result ≡ finish_answer self.entry.name xs) × (self.exit.0.now ≡ finish_bytes self.entry.name xs (length self.entry.out.now)) }
+        ensures limit { (xs : List written.Assignment) → Holds (draft_of self.entry) xs → IfOk result (λ f. f.len ≤ request_limit) }
         ensures within { WithinLimit }
         ensures reads { ReadsBack }
     {
@@ -148,7 +148,7 @@ impl<'a> RequestWriter<'a> {
             begun,
             kept: _,
         } = self;
-        let answer = finished_len(begun, name);
+        let answer = request_len(begun, name);
         // let go when this returns, and leaves the bytes of a finished request
         let _closing = RequestWriter {
             out,

@@ -14,7 +14,7 @@ use Rattle.tlcp.specs.Limits.{id_limit}
 use Rattle.tlcp.specs.Numbers.{number_of}
 use Rattle.tlcp.specs.Written.{fits, no_room}
 use Rattle.tlcp.proofs.Numerals.{reads-decimal}
-use Rattle.requests.specs.Asked.{Given, Sound, Apart, Formed, creates, binds, adds, deletes, rebinds, Right, found}
+use Rattle.requests.specs.Asked.{Given, Readable, Apart, Formed, creates, binds, adds, deletes, rebinds, Right, found}
 use Rattle.requests.specs.Limits.{request_limit, value_limit}
 use Rattle.requests.specs.Names.{index_of, is_in, needs, parameters_of, takes}
 use Rattle.requests.specs.Requests.{Request, create, bind, add, delete, rebind, request_of}
@@ -27,7 +27,7 @@ use Rattle.requests.proofs.Asking.{reads-asked}
 use Rattle.requests.proofs.Forming.{takes-in}
 use Rattle.compose.specs.Composed.{composing, zeroed_or}
 use Rattle.compose.specs.ReadBack.{Keeps, value_in}
-use Rattle.compose.specs.Written.{Pair, given_by, written}
+use Rattle.compose.specs.Written.{Assignment, given_by, written}
 use Rattle.compose.proofs.ReadingBack.{keeps-fit, reads-back, within-limit}
 use Rattle.compose.proofs.Rooms.{keeps-composed}
 use Rattle.request.specs.Anew.{name_for, pairs_for}
@@ -52,7 +52,7 @@ decoded-small h (plain {b = b} other d) = (plain-small b h.0, decoded-small h.1 
 decoded-small h (escape {h = x} {l = y} high low d) = (omega (arith, hex-small x high, hex-small y low), decoded-small h.1.1.1 d)
 
 -- the value that was read for a parameter
-fine-found : (gs : List Given) (p : Parameter) → AllByRecursion Sound gs → Fine (unwrap_or (found gs p) [])
+fine-found : (gs : List Given) (p : Parameter) → AllByRecursion Readable gs → Fine (unwrap_or (found gs p) [])
 fine-found [] p h = (tt, lit≤ tt)
 fine-found (g ∷ gs) p h =
     let sound = h.0 in
@@ -79,7 +79,7 @@ record Same (session : ℕ) (q : Request) : Type 0 where
 
 module _ (session : ℕ) where
   module _ (q : Request) (form : Form) where
-    abbrev xs : List Pair
+    abbrev xs : List Assignment
     xs = pairs_for session q
 
     abbrev look : Parameter → Option (List ℕ)
@@ -136,7 +136,7 @@ module _ (session : ℕ) where
           (ap (λ n. add r n g) (number-again id (decimal id) refl low high))
 
   -- a request that was read by these pairs
-  same_read : (gs : List Given) → AllByRecursion Sound gs → (form : Form) → AllByRecursion (λ p. Right session p (unwrap_or (found gs p) [])) (needs form) → Same session (request_of (found gs) form)
+  same_read : (gs : List Given) → AllByRecursion Readable gs → (form : Form) → AllByRecursion (λ p. Right session p (unwrap_or (found gs p) [])) (needs form) → Same session (request_of (found gs) form)
   same_read gs sound Create right = same-create _ _ _ (fine-found gs Cid sound) (fine-found gs User sound)
   same_read gs sound Bind right = same-bind (subst Fine right.0 (fine-found gs Session sound))
   same_read gs sound Add right =

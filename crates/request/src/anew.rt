@@ -7,7 +7,7 @@ ghost use Rattle.requests.specs.Requests.{add, bind, create, delete, rebind};
 ghost use Rattle.request.specs.Anew.{Anew};
 
 use crate::numbered::numbered;
-use compose::{Pair, RequestWriter, compose};
+use compose::{Assignment, RequestWriter, compose};
 use requests::{Name, Parameter, Request, Word};
 use row::Refusal;
 
@@ -37,7 +37,7 @@ fn bind_anew(out: &mut [u8], session: u32) -> Result<usize, Refusal>
     ensures { Anew session bind out.old result out.new }
 {
     let name = numbered(b"S", session);
-    let pairs = [Pair::new(Parameter::Session, name.text())];
+    let pairs = [Assignment::new(Parameter::Session, name.text())];
     compose(out, Name::BindSession, &pairs)
 }
 
@@ -46,13 +46,13 @@ fn add_anew(out: &mut [u8], request: Word, subscription: u32, group: Word) -> Re
 {
     let id = numbered(b"", subscription);
     let pairs = [
-        Pair::new(Parameter::RequestId, request.text()),
-        Pair::new(Parameter::Operation, b"add"),
-        Pair::new(Parameter::SubscriptionId, id.text()),
-        Pair::new(Parameter::Group, group.text()),
-        Pair::new(Parameter::Schema, b"all"),
-        Pair::new(Parameter::Mode, b"MERGE"),
-        Pair::new(Parameter::Snapshot, b"true"),
+        Assignment::new(Parameter::RequestId, request.text()),
+        Assignment::new(Parameter::Operation, b"add"),
+        Assignment::new(Parameter::SubscriptionId, id.text()),
+        Assignment::new(Parameter::Group, group.text()),
+        Assignment::new(Parameter::Schema, b"all"),
+        Assignment::new(Parameter::Mode, b"MERGE"),
+        Assignment::new(Parameter::Snapshot, b"true"),
     ];
     compose(out, Name::Control, &pairs)
 }
@@ -62,9 +62,9 @@ fn delete_anew(out: &mut [u8], request: Word, subscription: u32) -> Result<usize
 {
     let id = numbered(b"", subscription);
     let pairs = [
-        Pair::new(Parameter::RequestId, request.text()),
-        Pair::new(Parameter::Operation, b"delete"),
-        Pair::new(Parameter::SubscriptionId, id.text()),
+        Assignment::new(Parameter::RequestId, request.text()),
+        Assignment::new(Parameter::Operation, b"delete"),
+        Assignment::new(Parameter::SubscriptionId, id.text()),
     ];
     compose(out, Name::Control, &pairs)
 }
@@ -73,8 +73,8 @@ fn rebind_anew(out: &mut [u8], request: Word) -> Result<usize, Refusal>
     ensures { (session : ℕ) → Anew session (rebind (word_text request)) out.old result out.new }
 {
     let pairs = [
-        Pair::new(Parameter::RequestId, request.text()),
-        Pair::new(Parameter::Operation, b"force_rebind"),
+        Assignment::new(Parameter::RequestId, request.text()),
+        Assignment::new(Parameter::Operation, b"force_rebind"),
     ];
     compose(out, Name::Control, &pairs)
 }

@@ -10,10 +10,10 @@ use Rattle.tlcp.specs.Lines.{and_then}
 use Rattle.tlcp.specs.Dividing.{divided_by, ends_here, has, joined_by, line_end}
 use Rattle.tlcp.proofs.Dividing.{divided-joined, joined-divided}
 use Rattle.tlcp.proofs.Words.{first_word}
-use Rattle.requests.specs.Asked.{Asks, Given, ReadsAsked, Sound, found, spelling}
+use Rattle.requests.specs.Asked.{Asks, Given, ReadsAsked, Readable, found, spelling}
 use Rattle.requests.specs.Limits.{request_limit}
 use Rattle.requests.specs.Names.{is_in, name_of, names, name_word, needs, parameters_of, takes}
-use Rattle.requests.specs.Requests.{Pairs, Request, no_pairs, read_body, read_named, read_pairs, read_request}
+use Rattle.requests.specs.Requests.{Occurrences, Request, no_occurrences, read_body, read_named, read_pairs, read_request}
 use Rattle.requests.specs.declared.name.Name.{Name}
 use Rattle.requests.specs.declared.name.Name.TheVariants.{CreateSession, BindSession, Control}
 use Rattle.requests.specs.declared.name.Form.{Form}
@@ -56,13 +56,13 @@ some_pairs Add [] h = absurd (both_ways false refl h.0)
 some_pairs Delete [] h = absurd (both_ways false refl h.0)
 some_pairs ForceRebind [] h = absurd (both_ways false refl h.0)
 
-listed : (n : Name) (taken : List Parameter) → ((p : Parameter) → is_in p taken ≡ true → is_in p (parameters_of n) ≡ true) → (gs : List Given) → AllByRecursion Sound gs → AllByRecursion (λ g. is_in g.parameter taken ≡ true) gs → AllByRecursion (Listed n) gs
+listed : (n : Name) (taken : List Parameter) → ((p : Parameter) → is_in p taken ≡ true → is_in p (parameters_of n) ≡ true) → (gs : List Given) → AllByRecursion Readable gs → AllByRecursion (λ g. is_in g.parameter taken ≡ true) gs → AllByRecursion (Listed n) gs
 listed n taken known [] sound only = tt
 listed n taken known (g ∷ gs) (here, sound) (this, only) = ((here, known g.parameter this), listed n taken known gs sound only)
 
-body-read : (session : ℕ) (s : List ℕ) (at : ℕ) (o : Option Name) (q : Request) → read_body session s at o ≡ Ok q → (n : Name) × (ps : Pairs) × (o ≡ Some n) × (read_pairs n at (divided_by 38 (drop at s)) no_pairs ≡ Ok ps) × (read_named session (length s) n ps ≡ Ok q)
+body-read : (session : ℕ) (s : List ℕ) (at : ℕ) (o : Option Name) (q : Request) → read_body session s at o ≡ Ok q → (n : Name) × (ps : Occurrences) × (o ≡ Some n) × (read_pairs n at (divided_by 38 (drop at s)) no_occurrences ≡ Ok ps) × (read_named session (length s) n ps ≡ Ok q)
 body-read session s at None q e = refused e
-body-read session s at (Some n) q e = let (ps, pairs, asked) = then_ok (read_pairs n at (divided_by 38 (drop at s)) no_pairs) _ q e in (n, ps, refl, pairs, asked)
+body-read session s at (Some n) q e = let (ps, pairs, asked) = then_ok (read_pairs n at (divided_by 38 (drop at s)) no_occurrences) _ q e in (n, ps, refl, pairs, asked)
 
 asks : (session : ℕ) (s : List ℕ) (q : Request) → read_request session s ≡ Ok q → Asks session s q
 asks session s q e =
@@ -80,7 +80,7 @@ asks session s q e =
       pairs = gs;
       short = leb-true (length s) request_limit short;
       whole = sym (line-whole s (ltb-true (line_end s) (length s) inside)) ∙ (λ i. word i ++ (13 ∷ 10 ∷ joined i));
-      sound = All-weaker (Listed n) Sound (λ g h. h.0) gs all;
+      sound = All-weaker (Listed n) Readable (λ g h. h.0) gs all;
       apart = apart;
       formed = meets.formed;
       all = meets.all;
@@ -90,7 +90,7 @@ asks session s q e =
     }
 
 -- a line of a name and some text is read from that text
-read-line : (session : ℕ) (n : Name) (t : List ℕ) → length (name_word n ++ (13 ∷ 10 ∷ t)) ≤ request_limit → read_request session (name_word n ++ (13 ∷ 10 ∷ t)) ≡ and_then (read_pairs n (length (name_word n) + 2) (divided_by 38 t) no_pairs) (read_named session (length (name_word n ++ (13 ∷ 10 ∷ t))) n)
+read-line : (session : ℕ) (n : Name) (t : List ℕ) → length (name_word n ++ (13 ∷ 10 ∷ t)) ≤ request_limit → read_request session (name_word n ++ (13 ∷ 10 ∷ t)) ≡ and_then (read_pairs n (length (name_word n) + 2) (divided_by 38 t) no_occurrences) (read_named session (length (name_word n ++ (13 ∷ 10 ∷ t))) n)
 read-line session n t short =
     let w = name_word n in
     let s = w ++ (13 ∷ 10 ∷ t) in
@@ -102,7 +102,7 @@ read-line session n t short =
     ∙ cond-true _ _ _ (lt-ltb (line_end s) (length s) inside)
     ∙ ap (λ m. read_body session s (m + 2) (name_of (take m s))) end
     ∙ ap (read_body session s (length w + 2)) name
-    ∙ ap (λ u. and_then (read_pairs n (length w + 2) (divided_by 38 u) no_pairs) (read_named session (length s) n)) rest
+    ∙ ap (λ u. and_then (read_pairs n (length w + 2) (divided_by 38 u) no_occurrences) (read_named session (length s) n)) rest
 
 asked : (session : ℕ) (s : List ℕ) (q : Request) → Asks session s q → read_request session s ≡ Ok q
 asked session s q h =
@@ -115,7 +115,7 @@ asked session s q h =
     let meets : Meets session n (found gs) q = record { form = h.form; formed = h.formed; all = h.all; only = found-only (takes h.form) gs h.only; right = h.right; is = h.is } in
     ap (read_request session) h.whole
     ∙ read-line session n t (subst (λ u. length u ≤ request_limit) h.whole h.short)
-    ∙ ap (λ ss. and_then (read_pairs n at ss no_pairs) (read_named session end n)) (divided-joined 38 (map spelling gs) (some_pairs h.form gs h.all) (none_has gs h.sound))
+    ∙ ap (λ ss. and_then (read_pairs n at ss no_occurrences) (read_named session end n)) (divided-joined 38 (map spelling gs) (some_pairs h.form gs h.all) (none_has gs h.sound))
     ∙ ap (λ r. and_then r (read_named session end n)) read
     ∙ read_named_lem session end n ps q (subst (λ look. Meets session n look q) (sym texts) meets)
 

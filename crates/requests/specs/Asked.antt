@@ -27,7 +27,7 @@ abbrev pub spelling : Given → List ℕ
 spelling g = parameter_word g.parameter ++ (61 ∷ g.raw)
 
 -- the bytes are unreserved ones and escapes, and not too many when decoded
-pub record Sound (g : Given) : Type 0 where
+pub record Readable (g : Given) : Type 0 where
   pub plain : AllByRecursion (λ b. is_plain b ≡ true) g.raw
   pub decodes : Decodes g.raw g.text
   pub short : length g.text ≤ value_limit
@@ -79,7 +79,7 @@ pub record Asks (session : ℕ) (s : List ℕ) (q : Request) : Type 0 where
   pub pairs : List Given
   pub short : length s ≤ request_limit
   pub whole : s ≡ name_word name ++ (13 ∷ 10 ∷ joined_by 38 (map spelling pairs))
-  pub sound : AllByRecursion Sound pairs
+  pub sound : AllByRecursion Readable pairs
   pub apart : Apart pairs
   pub formed : Formed name (found pairs Operation) form
   pub all : AllByRecursion (λ p. is_some (found pairs p) ≡ true) (needs form)

@@ -7,12 +7,12 @@ ghost use Rattle.row.specs.declared.fault.Fault.TheVariants.{Parts};
 ghost use Rattle.requests.specs.Answers.{asked, request_in};
 ghost use Rattle.requests.specs.Asked.{ReadsAsked};
 ghost use Rattle.requests.specs.Limits.{request_limit};
-ghost use Rattle.requests.specs.Read.{pairs_in};
+ghost use Rattle.requests.specs.Read.{occurrences_in};
 ghost use Rattle.requests.specs.Names.{first_needs, needs};
 ghost use Rattle.requests.specs.Requests.{form_of, lacks, read_form, read_named, read_request};
 
 use crate::name::{Form, Name, Parameter};
-use crate::pairs::{Pairs, read_pairs};
+use crate::occurrences::{Occurrences, read_pairs};
 use crate::whole::Whole;
 use crate::word::Word;
 use row::{Fault, Refusal};
@@ -47,10 +47,10 @@ pub enum Request {
     },
 }
 
-impl Pairs {
+impl Occurrences {
     // The form of a request of this name, if its first needs are given.
     fn form(&self, name: Name, end: usize) -> Result<Form, Refusal>
-        ensures { result ≡ (if lacks (first_needs name) (pairs_in self.now) then Err (refusal Parts end) else form_of name (pairs_in self.now)) }
+        ensures { result ≡ (if lacks (first_needs name) (occurrences_in self.now) then Err (refusal Parts end) else form_of name (occurrences_in self.now)) }
     {
         if self.lack(name.first_needs()) {
             return Err(Fault::Parts.at(end));
@@ -67,7 +67,7 @@ impl Pairs {
 
     // These pairs with a form, if all that it needs is given.
     fn whole(&self, form: Form) -> Option<Whole<'_>>
-        ensures { MatchOption result (lacks (needs form) (pairs_in self.now) ≡ true) (λ w. (w.form ≡ form) × (w.pairs.now ≡ self.now)) }
+        ensures { MatchOption result (lacks (needs form) (occurrences_in self.now) ≡ true) (λ w. (w.form ≡ form) × (w.pairs.now ≡ self.now)) }
     {
         // kept: with `then` the closure that makes a `Whole` has to say by a clause of its own that nothing is missing
         if self.lack(form.needs()) {
@@ -78,7 +78,7 @@ impl Pairs {
 
     // What the pairs ask for in this form, if they are just what it takes.
     fn read_form(&self, form: Form, end: usize, session: u32) -> Result<Request, Refusal>
-        ensures { result_map_both request_in (λ e. e) result ≡ read_form session end (pairs_in self.now) form }
+        ensures { result_map_both request_in (λ e. e) result ≡ read_form session end (occurrences_in self.now) form }
     {
         let whole = self.whole(form).ok_or(Fault::Parts.at(end))?;
         if let Some(at) = self.unfit(form.takes()) {
@@ -89,7 +89,7 @@ impl Pairs {
 
     // What the pairs ask for under this name.
     fn read_named(&self, name: Name, end: usize, session: u32) -> Result<Request, Refusal>
-        ensures { result_map_both request_in (λ e. e) result ≡ read_named session end name (pairs_in self.now) }
+        ensures { result_map_both request_in (λ e. e) result ≡ read_named session end name (occurrences_in self.now) }
     {
         self.read_form(self.form(name, end)?, end, session)
     }

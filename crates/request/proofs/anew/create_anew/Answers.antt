@@ -10,7 +10,7 @@ use Rattle.requests.specs.declared.name.Name.TheVariants.{CreateSession}
 use Rattle.requests.specs.declared.name.Parameter.TheVariants.{Cid, User, Password}
 use Rattle.compose.specs.Drafts.{add_answer, add_to}
 use Rattle.compose.specs.Writers.{draft_of}
-use Rattle.compose.specs.Written.{pair}
+use Rattle.compose.specs.Written.{assign}
 use Rattle.request.specs.Anew.{optional, redacted}
 use Rattle.request.proofs.Adding.{Added, added-next, added-none, anew-finished, anew-refused}
 use Rattle.request.proofs.anew.create_anew.Goals as goal
@@ -24,20 +24,20 @@ ends p q = q ∙ p
 begun : (c : After-is_some) → Added CreateSession c.args.out.now (λ ys. ys) (draft_of c.new-request.result)
 begun c = added-none CreateSession c.args.out.now _ c.new-request.ensures.draft
 
-with_cid : (c : After-is_some) → Added CreateSession c.args.out.now (λ ys. pair Cid (word_text c.args.cid) ∷ ys) (draft_of c.add.new.self)
+with_cid : (c : After-is_some) → Added CreateSession c.args.out.now (λ ys. assign Cid (word_text c.args.cid) ∷ ys) (draft_of c.add.new.self)
 with_cid c =
     let h = c.in_ok-add.ensures in
     let d = draft_of c.new-request.result in
-    added-next CreateSession c.args.out.now _ d _ (begun c) _ (h.draft ∙ ap (λ t. add_to d (pair Cid t)) c.text.ensures) (h.answer ∙ ap (λ t. add_answer d (pair Cid t)) c.text.ensures)
+    added-next CreateSession c.args.out.now _ d _ (begun c) _ (h.draft ∙ ap (λ t. add_to d (assign Cid t)) c.text.ensures) (h.answer ∙ ap (λ t. add_answer d (assign Cid t)) c.text.ensures)
 
-with_user : (c : After-is_some) → Added CreateSession c.args.out.now (λ ys. pair Cid (word_text c.args.cid) ∷ optional User (option_map word_text c.args.user) ys) (draft_of c.match-user.request)
+with_user : (c : After-is_some) → Added CreateSession c.args.out.now (λ ys. assign Cid (word_text c.args.cid) ∷ optional User (option_map word_text c.args.user) ys) (draft_of c.match-user.request)
 with_user c =
     let d = draft_of c.add.new.self in
     elim c.match-user.branch [
       | in-Some+in_ok-add-2 w ↦
           let h = w.in_ok-add-2.ensures in
           rw (w.request-is, w.in-Some.is)
-          (added-next CreateSession c.args.out.now _ d _ (with_cid c) _ (h.draft ∙ ap (λ t. add_to d (pair User t)) w.text-in-Some.ensures) (h.answer ∙ ap (λ t. add_answer d (pair User t)) w.text-in-Some.ensures))
+          (added-next CreateSession c.args.out.now _ d _ (with_cid c) _ (h.draft ∙ ap (λ t. add_to d (assign User t)) w.text-in-Some.ensures) (h.answer ∙ ap (λ t. add_answer d (assign User t)) w.text-in-Some.ensures))
       | in_default w ↦ rw (w.request-is, w.in_default.is) (with_cid c)
     ]
 
@@ -64,8 +64,8 @@ returns-in_err-add-3 c session =
     let user = option_map word_text c.args.user in
     let is = hidden word_text c.args.password ∙ cond-true _ _ _ (sym c.is_some.ensures ∙ c.if-is_some.true) in
     let same = lent b in
-    anew-refused session (create cid user (option_map word_text c.args.password)) c.args.out.now _ (draft_of c.match-user.request) (with_user b) _ _ (pair Password (codes "redacted")) [] (draft_of c.add-then-is_some.new.self) c.in_err-add-3.field-0.0
-    (ap (λ o. pair Cid cid ∷ optional User user (optional Password o [])) is) h.draft h.answer (e.1 ∙ ap Err e.2) (ends c.drop-request-in_err-add-3.ensures (search rules))
+    anew-refused session (create cid user (option_map word_text c.args.password)) c.args.out.now _ (draft_of c.match-user.request) (with_user b) _ _ (assign Password (codes "redacted")) [] (draft_of c.add-then-is_some.new.self) c.in_err-add-3.field-0.0
+    (ap (λ o. assign Cid cid ∷ optional User user (optional Password o [])) is) h.draft h.answer (e.1 ∙ ap Err e.2) (ends c.drop-request-in_err-add-3.ensures (search rules))
 
 pub returns : goal.returns
 returns c session =
@@ -73,7 +73,7 @@ returns c session =
     let cid = word_text c.args.cid in
     let user = option_map word_text c.args.user in
     let d = draft_of c.match-user.request in
-    let all : Added CreateSession c.args.out.now (λ ys. pair Cid cid ∷ optional User user (optional Password (redacted (option_map word_text c.args.password)) ys)) (draft_of c.if-is_some.request) =
+    let all : Added CreateSession c.args.out.now (λ ys. assign Cid cid ∷ optional User user (optional Password (redacted (option_map word_text c.args.password)) ys)) (draft_of c.if-is_some.request) =
     elim c.if-is_some.branch [
       | then-is_some+in_ok-add-3 w ↦
           let h = w.in_ok-add-3.ensures in

@@ -1,7 +1,7 @@
 use Rattle.std.proofs.Common.{sym, ◌∙◌}
 use Rattle.std.proofs.lemmas.Result.{err_from_is_err_and}
 use Rattle.requests.proofs.Taking.{taken-cut}
-use Rattle.requests.proofs.pairs.read_pairs.Goals as goal
+use Rattle.requests.proofs.occurrences.read_pairs.Goals as goal
 
 pub returns-in_err-add : goal.returns-in_err-add
 returns-in_err-add c =
