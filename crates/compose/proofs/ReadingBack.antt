@@ -9,7 +9,7 @@ use Rattle.tlcp.specs.Bytes.{is_plain, is_reserved}
 use Rattle.tlcp.specs.Escapes.{encoded_by, hex_digit, spelled}
 use Rattle.tlcp.specs.Dividing.{each_behind, joined_by}
 use Rattle.tlcp.proofs.Unescaped.{decodes-by, length-by}
-use Rattle.requests.specs.Asked.{Given, Sound, Apart, ReadsAsked, found, spelling}
+use Rattle.requests.specs.Asked.{Given, Readable, Apart, ReadsAsked, found, spelling}
 use Rattle.requests.specs.Limits.{value_limit}
 use Rattle.requests.specs.Names.{index_of, is_in, name_word, parameters_of, parameter_word, takes}
 use Rattle.requests.proofs.Forming.{takes-in}
@@ -134,7 +134,7 @@ plain_by (b ∷ t) h = by (is_reserved b) refl h.0 (plain_by t h.1)
 reserved-percent : (b : ℕ) → is_reserved b ≡ false → eqb b 37 ≡ false
 reserved-percent b e = grind (arith, nat_tests)
 
-sound-given : (xs : List Assignment) → AllByRecursion (λ x. AllByRecursion (λ b. b < 256) x.value) xs → AllByRecursion (λ x. length x.value ≤ value_limit) xs → AllByRecursion Sound (map given_by xs)
+sound-given : (xs : List Assignment) → AllByRecursion (λ x. AllByRecursion (λ b. b < 256) x.value) xs → AllByRecursion (λ x. length x.value ≤ value_limit) xs → AllByRecursion Readable (map given_by xs)
 sound-given [] bytes short = tt
 sound-given (x ∷ xs) bytes short = (
   record { plain = plain_by x.value bytes.0; decodes = decodes-by is_reserved reserved-percent x.value bytes.0; short = short.0 },

@@ -9,7 +9,8 @@ use requests::Name;
 use row::{Fault, Refusal};
 use tlcp::{Class, Worded, put, put_escaped};
 
-// Zeros the bytes and begins them with the name and CR LF, if these fit, and answers the place behind them.
+// Zeros the bytes and begins them with the name and CR LF, if these fit, and answers the place
+// behind them.
 pub(crate) fn put_head(out: &mut [u8], name: Name) -> Result<usize, Refusal>
     ensures answer { result ≡ end_or 0 (head_text name) out.old }
     ensures bytes { out.new ≡ padded_or (head_text name) out.old }
@@ -29,7 +30,8 @@ fn joint(first: bool) -> &'static [u8]
     if first { b"" } else { b"&" }
 }
 
-// Writes a pair from the place `at` on, with `&` before it unless it is the first, if it fits, and answers the place behind it.
+// Writes a pair from the place `at` on, with `&` before it unless it is the first, if it fits, and
+// answers the place behind it.
 pub(crate) fn put_pair(
     out: &mut [u8],
     at: usize,
@@ -44,7 +46,8 @@ pub(crate) fn put_pair(
     if at > out.len() {
         return Err(Fault::Length.at(0));
     }
-    // kept: by places, the value first: if it fits, so does what stands before it; a cursor would leave a part of a refused pair
+    // the value first: where it fits, so does what stands before it, and a pair that does not fit
+    // leaves no part of itself
     let start = at + before.len() + word.len() + 1;
     let end = put_escaped(out, start, pair.value, Class::Reserved)?;
     let named = put(out, at, before)?;

@@ -123,7 +123,12 @@ impl<'a> RequestWriter<'a> {
             return Err(Fault::Length.at(0));
         }
         let first = begun.is_bare(self.name);
-        begun.len = put_pair(self.out, begun.len, first, Assignment::new(parameter, value))?;
+        begun.len = put_pair(
+            self.out,
+            begun.len,
+            first,
+            Assignment::new(parameter, value),
+        )?;
         begun.given[i] = true;
         self.begun = Some(begun);
         Ok(())

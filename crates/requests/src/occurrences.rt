@@ -1,4 +1,4 @@
-//! The pairs of a request.
+//! The pairs of a request, read from left to right and kept by their parameters.
 ghost use Rattle.std.specs.Prelude.{◌≡◌, true, Some};
 ghost use Rattle.std.specs.Option.{option_map};
 ghost use Rattle.std.specs.Result.{result_map_both};
@@ -11,7 +11,8 @@ use crate::request::Part;
 use crate::word::{Word, read_value};
 use row::{Fault, Refusal};
 
-// A pair: where it stands, where its value stands, and the value.
+// A parameter that occurs in a request: where its pair stands, where its value stands, and the
+// value.
 #[derive(Clone, Copy)]
 pub(crate) struct Occurrence {
     at: usize,
@@ -19,10 +20,10 @@ pub(crate) struct Occurrence {
     pub(crate) word: Word,
 }
 
-// The pairs that have been read, each at the place of its parameter.
+// The parameters that have occurred so far, each at its index.
 #[derive(Clone, Copy)]
 pub(crate) struct Occurrences {
-    // kept: an array by parameter index, and no map: no heap, by the project's rule
+    // an array, since a request is read without allocating
     slots: [Option<Occurrence>; PARAMETER_COUNT],
 }
 

@@ -18,13 +18,14 @@ use crate::word::Word;
 use row::{Fault, Refusal};
 use tlcp::{Placed, find_end};
 
-/// The bytes of a request.
+/// How many bytes a request has at most: its name, CR LF and its pairs.
 pub const REQUEST_LIMIT: usize = 2048;
 
 // A part of a request.
 pub(crate) type Part<'a> = Placed<'a, REQUEST_LIMIT>;
 
-/// What a request asks for.
+/// What a request asks for, with its values decoded and checked. A group's number may be of any
+/// size, so it stays the text that it is.
 #[derive(Clone, Copy)]
 pub enum Request {
     Create {
@@ -69,7 +70,8 @@ impl Occurrences {
     fn whole(&self, form: Form) -> Option<Whole<'_>>
         ensures { MatchOption result (lacks (needs form) (occurrences_in self.now) ≡ true) (λ w. (w.form ≡ form) × (w.pairs.now ≡ self.now)) }
     {
-        // kept: with `then` the closure that makes a `Whole` has to say by a clause of its own that nothing is missing
+        // no `then`: a closure that makes a `Whole` would have to say by a clause of its own that
+        // nothing is missing
         if self.lack(form.needs()) {
             return None;
         }
@@ -95,7 +97,14 @@ impl Occurrences {
     }
 }
 
-/// Reads a request for the session with this number.
+/// Reads a request as it is read in the session with this number: a name, CR LF, and one or more
+/// pairs `parameter=value` in any order, joined by `&`.
+///
+/// Refused at the place of the first fault: 16 for a text of more than `REQUEST_LIMIT` bytes, 2
+/// where there is no CR LF, 5 for another name; then the pairs from left to right, each with 2, 6,
+/// 3, 8 or 16; then 6 for what the name needs, 8 for another operation, 6 for what the operation
+/// needs and for what it does not have; and 4 or 8 for a value that its parameter does not take.
+/// `request_tables` has each of these.
 pub fn read_request(text: &[u8], session: u32) -> Result<Request, Refusal>
     ensures answer { asked result ≡ read_request session text.now }
     ensures grammar { ReadsAsked }
