@@ -42,7 +42,6 @@ fn check_request(rt: &impl Abort, name: Name, pairs: &[Assignment<'_>], text: &[
 
 #[test]
 fn requests(rt: HostRuntime) -> Result<(), Fail> {
-    check_request(&rt, Name::CreateSession, &[], b"create_session\r\n")?;
     check_request(
         &rt,
         Name::BindSession,
@@ -128,21 +127,43 @@ fn refused_name(rt: HostRuntime) -> Result<(), Fail> {
 fn pairs_between_refusals(rt: HostRuntime) -> Result<(), Fail> {
     let mut out = [b'?'; 120];
     let mut request = RequestWriter::new(&mut out, Name::CreateSession);
-    assert!(rt; request.add(Parameter::Cid, b"c").is_err());
-    assert!(rt; request.begin().is_ok());
     assert!(rt; request.add(Parameter::Cid, LONGEST).is_ok());
     assert!(rt; request.add(Parameter::Cid, b"c").is_err());
     assert!(rt; request.add(Parameter::Session, b"S1").is_err());
     assert!(rt; request.add(Parameter::User, TOO_LONG).is_err());
     assert!(rt; request.add(Parameter::User, LONGEST).is_err());
     assert!(rt; request.add(Parameter::User, b"u").is_ok());
-    let len = request.finish().len;
+    let answer = request.finish().map(|finished| finished.len);
     check_bytes(
         &rt,
         &out,
-        Ok(len),
+        answer,
         b"create_session\r\nLS_cid=0123456789abcdef0123456789abcdef0123456789abcdef0123456789abcdef&LS_user=u",
     )
+}
+
+// A name that does not fit refuses each call, also a pair that is none of the name's, and the bytes
+// stay as they were.
+#[test]
+fn name_without_room(rt: HostRuntime) -> Result<(), Fail> {
+    let mut out = [b'?'; 15];
+    let mut request = RequestWriter::new(&mut out, Name::CreateSession);
+    assert_eq!(rt; request.add(Parameter::Mode, b"c").map_err(numbered), Err((16, 0)));
+    let answer = request.finish().map(|finished| finished.len);
+    check_fault(&rt, answer, 16)?;
+    assert!(rt; are_all(&out, b'?'));
+    Ok(())
+}
+
+// A request without a pair is none, and leaves only zeros.
+#[test]
+fn no_pair(rt: HostRuntime) -> Result<(), Fail> {
+    let mut out = [b'?'; 16];
+    let request = RequestWriter::new(&mut out, Name::CreateSession);
+    let answer = request.finish().map(|finished| finished.len);
+    check_fault(&rt, answer, 6)?;
+    assert!(rt; are_all(&out, 0));
+    Ok(())
 }
 
 // A request that is dropped before it is finished leaves only zeros.
@@ -151,7 +172,6 @@ fn half_made(rt: HostRuntime) -> Result<(), Fail> {
     let mut out = [b'?'; 64];
     {
         let mut request = RequestWriter::new(&mut out, Name::CreateSession);
-        assert!(rt; request.begin().is_ok());
         assert!(rt; request.add(Parameter::Password, b"secret").is_ok());
     }
     assert!(rt; are_all(&out, 0));

@@ -1,22 +1,20 @@
 -- A request that was read is written anew, and read again as what is shown of it.
-use Rattle.std.proofs.Common.{◌≡◌, ℕ, ◌+◌, ◌-◌, ◌<◌, ◌≤◌, true, eqb, List, [], ◌∷◌, map, length, take, replicate, is_some, Some, None, Ok, Err, codes, decimal, Option, unwrap_or, sym, refl, ap, ◌∙◌, subst, arith, lit<, lit≤}
+use Rattle.std.proofs.Common.{◌≡◌, ℕ, ◌-◌, ◌<◌, ◌≤◌, true, eqb, List, [], ◌∷◌, map, length, replicate, is_some, Some, None, Ok, codes, decimal, Option, unwrap_or, sym, refl, ap, ◌∙◌, subst, arith, lit<, lit≤}
 use Rattle.std.specs.List.{AllByRecursion}
 use Rattle.std.proofs.ByRecursion.{All-weaker}
 use Rattle.std.proofs.lemmas.List.{length-replicate, take_at}
-use Rattle.std.proofs.lemmas.Bool.{and_from, cond_both, cond-true, le-leb}
+use Rattle.std.proofs.lemmas.Bool.{cond_both}
 use Rattle.std.proofs.lemmas.Bool.Decides.{nat_tests}
-use Rattle.std.specs.Result.{result_map_both}
 use Rattle.row.specs.Every.{all-bytes}
 use Rattle.row.specs.Texts.{every, is_byte, padded}
 use Rattle.tlcp.specs.Bytes.{is_hex, is_plain}
 use Rattle.tlcp.specs.Escapes.{Decodes, nothing, plain, escape, hex_value}
 use Rattle.tlcp.specs.Limits.{id_limit}
 use Rattle.tlcp.specs.Numbers.{number_of}
-use Rattle.tlcp.specs.Written.{fits, no_room}
 use Rattle.tlcp.proofs.Numerals.{reads-decimal}
 use Rattle.requests.specs.Asked.{Given, Readable, Apart, Formed, creates, binds, adds, deletes, rebinds, Right, found}
 use Rattle.requests.specs.Limits.{request_limit, value_limit}
-use Rattle.requests.specs.Names.{index_of, is_in, needs, parameters_of, takes}
+use Rattle.requests.specs.Names.{index_of, is_in, needs, takes}
 use Rattle.requests.specs.Requests.{Request, create, bind, add, delete, rebind, request_of}
 use Rattle.requests.specs.Values.{session_name}
 use Rattle.requests.specs.declared.name.Form.{Form}
@@ -24,7 +22,6 @@ use Rattle.requests.specs.declared.name.Form.TheVariants.{Create, Bind, Add, Del
 use Rattle.requests.specs.declared.name.Parameter.{Parameter}
 use Rattle.requests.specs.declared.name.Parameter.TheVariants.{Cid, User, Session, RequestId, Operation, SubscriptionId, Group}
 use Rattle.requests.proofs.Asking.{reads-asked}
-use Rattle.requests.proofs.Forming.{takes-in}
 use Rattle.compose.specs.Composed.{composing, zeroed_or}
 use Rattle.compose.specs.ReadBack.{Keeps, value_in}
 use Rattle.compose.specs.Written.{Assignment, given_by, written}
