@@ -29,7 +29,8 @@ pub record Holds (d : Draft) (xs : List Assignment) : Type 0 where
   pub unkept : d.kept ≡ false
   pub request : Stands d.name xs d.bytes d.len
   pub places : length d.given ≡ parameter_count
-  pub added : (p : Parameter) → slice_index_or d.given (index_of p) false ≡ is_some (found (map given_by xs) p)
+  pub added : (p : Parameter)
+      → slice_index_or d.given (index_of p) false ≡ is_some (found (map given_by xs) p)
   pub fit : Fits d.name xs
 
 -- the pairs behind a call that was answered so

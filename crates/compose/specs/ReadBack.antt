@@ -28,4 +28,6 @@ pub record Keeps (session : ℕ) (name : Name) (form : Form) (xs : List Assignme
 
 -- the reader takes a written request that keeps the rules for what its pairs ask for
 abbrev pub ReadsBack : Type 0
-ReadsBack = (session : ℕ) (name : Name) (form : Form) (xs : List Assignment) → Keeps session name form xs → read_request session (written name xs) ≡ Ok (request_of (value_in xs) form)
+ReadsBack = (session : ℕ) (name : Name) (form : Form) (xs : List Assignment)
+    → Keeps session name form xs
+    → read_request session (written name xs) ≡ Ok (request_of (value_in xs) form)

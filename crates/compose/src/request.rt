@@ -111,7 +111,8 @@ impl<'a> RequestWriter<'a> {
     pub fn add(&mut self, parameter: Parameter, value: &[u8]) -> Result<(), Refusal>
         ensures answer { result ≡ add_answer (draft_of self.old) (assign parameter value.now) }
         ensures draft { draft_of self.new ≡ add_to (draft_of self.old) (assign parameter value.now) }
-        ensures pairs { (xs : List written.Assignment) → Holds (draft_of self.old) xs → Holds (draft_of self.new) (pairs_after result xs (assign parameter value.now)) }
+        ensures pairs { (xs : List written.Assignment) → Holds (draft_of self.old) xs
+            → Holds (draft_of self.new) (pairs_after result xs (assign parameter value.now)) }
         ensures lent { self.new.out.ghost_name ≡ self.old.out.ghost_name }
     {
         let mut begun = self.begun.ok_or(Fault::Length.at(0))?;
@@ -140,10 +141,14 @@ impl<'a> RequestWriter<'a> {
     /// Refused with 16 where the name did not fit the bytes, which are then as they were, and with
     /// 6 where no pair was added; the bytes are then zeros.
     pub fn finish(self) -> Result<Finished, Refusal>
-        ensures answer { result_map_both (λ f. f.len) (λ e. e) result ≡ length_or (ending (draft_of self.entry)) }
+        ensures answer { result_map_both (λ f. f.len) (λ e. e) result
+            ≡ length_or (ending (draft_of self.entry)) }
         ensures bytes { self.exit.0.now ≡ left_by (closed (draft_of self.entry)) }
-        ensures pairs { (xs : List written.Assignment) → Holds (draft_of self.entry) xs → (result_map_both (λ f. f.len) (λ e. e) result ≡ finish_answer self.entry.name xs) × (self.exit.0.now ≡ finish_bytes self.entry.name xs (length self.entry.out.now)) }
-        ensures limit { (xs : List written.Assignment) → Holds (draft_of self.entry) xs → IfOk result (λ f. f.len ≤ request_limit) }
+        ensures pairs { (xs : List written.Assignment) → Holds (draft_of self.entry) xs
+            → (result_map_both (λ f. f.len) (λ e. e) result ≡ finish_answer self.entry.name xs)
+            × (self.exit.0.now ≡ finish_bytes self.entry.name xs (length self.entry.out.now)) }
+        ensures limit { (xs : List written.Assignment) → Holds (draft_of self.entry) xs
+            → IfOk result (λ f. f.len ≤ request_limit) }
         ensures within { WithinLimit }
         ensures reads { ReadsBack }
     {

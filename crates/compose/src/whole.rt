@@ -15,7 +15,8 @@ use row::Refusal;
 /// zeros.
 pub fn compose(out: &mut [u8], name: Name, pairs: &[Assignment<'_>]) -> Result<usize, Refusal>
     ensures answer { result ≡ length_or (composing name (assignments_in pairs.now) out.old) }
-    ensures bytes { out.new ≡ bytes_or (zeroed_or name out.old) (composing name (assignments_in pairs.now) out.old) }
+    ensures bytes { out.new
+        ≡ bytes_or (zeroed_or name out.old) (composing name (assignments_in pairs.now) out.old) }
     ensures rooms { ComposesAll }
 {
     let mut request = RequestWriter::new(out, name);

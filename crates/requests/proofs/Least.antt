@@ -14,10 +14,14 @@ least : (a : ℕ) (xs : List ℕ) → leftmost (Some a) (reduce min xs) ≡ Some
 least a [] = refl
 least a (x ∷ xs) = ap Some (min-fold a x xs)
 
-pub unfit-least : (taken : List Parameter) (ps : Occurrences) (l : List Parameter) → unfit taken ps l ≡ reduce min (filter_map (unfit_of taken ps) l)
+pub unfit-least : (taken : List Parameter) (ps : Occurrences) (l : List Parameter)
+    → unfit taken ps l ≡ reduce min (filter_map (unfit_of taken ps) l)
 unfit-least taken ps [] = refl
-unfit-least taken ps (p ∷ l) = ap (leftmost (unfit_of taken ps p)) (unfit-least taken ps l) ∙ here (unfit_of taken ps p)
+unfit-least taken ps (p ∷ l) = ap (leftmost (unfit_of taken ps p)) (unfit-least taken ps l)
+    ∙ here (unfit_of taken ps p)
   where
-    here : (o : Option ℕ) → leftmost o (reduce min (filter_map (unfit_of taken ps) l)) ≡ reduce min (cons_option o (filter_map (unfit_of taken ps) l))
+    here : (o : Option ℕ)
+        → leftmost o (reduce min (filter_map (unfit_of taken ps) l))
+        ≡ reduce min (cons_option o (filter_map (unfit_of taken ps) l))
     here None = refl
     here (Some a) = least a (filter_map (unfit_of taken ps) l)

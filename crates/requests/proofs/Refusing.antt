@@ -9,7 +9,8 @@ use Rattle.requests.specs.Refused.{Refusals}
 pub refusals : Refusals
 unfolding digits
 refusals = record {
-  too_long = λ session s h. ap by_numbers (cond-false (leb (length s) request_limit) _ _ (lt-leb _ _ h));
+  too_long = λ session s h. ap by_numbers
+      (cond-false (leb (length s) request_limit) _ _ (lt-leb _ _ h));
   no_end = refl;
   end_turned = refl;
   no_text = refl;

@@ -8,7 +8,9 @@ use Rattle.requests.specs.declared.name.Name.TheVariants.{CreateSession, BindSes
 use Rattle.requests.proofs.Fitting.{decides-same}
 
 -- a word is that of one thing
-only : {X : Type 0} (word : X → List ℕ) (xs : List X) (x : X) → first_with word xs (word x) ≡ Some x → (t : List ℕ) → (first_with word xs t ≡ Some x → t ≡ word x) × (t ≡ word x → first_with word xs t ≡ Some x)
+only : {X : Type 0} (word : X → List ℕ) (xs : List X) (x : X) → first_with word xs (word x) ≡ Some x
+    → (t : List ℕ)
+    → (first_with word xs t ≡ Some x → t ≡ word x) × (t ≡ word x → first_with word xs t ≡ Some x)
 only word xs x found t = (first_word word xs t x, λ e. ap (first_with word xs) e ∙ found)
 
 pub words : Words

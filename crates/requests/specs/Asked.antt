@@ -64,7 +64,8 @@ Right session Cid t = Unit {0}
 Right session User t = Unit {0}
 Right session Password t = Unit {0}
 Right session Session t = t ≡ session_name session
-Right session RequestId t = (1 ≤ length t) × (length t ≤ request_id_limit) × AllByRecursion (λ b. is_alphanumeric b ≡ true) t
+Right session RequestId t = (1 ≤ length t) × (length t ≤ request_id_limit)
+    × AllByRecursion (λ b. is_alphanumeric b ≡ true) t
 Right session Operation t = Unit {0}
 Right session SubscriptionId t = (n : ℕ) × (t ≡ decimal n) × (1 ≤ n) × (n ≤ id_limit)
 Right session Group t = (ds : List ℕ) × (t ≡ 116 ∷ ds) × Numeral ds
@@ -89,4 +90,6 @@ pub record Asks (session : ℕ) (s : List ℕ) (q : Request) : Type 0 where
 
 -- the reader accepts exactly the bytes that ask for a request, and takes them for it
 abbrev pub ReadsAsked : Type 0
-ReadsAsked = (session : ℕ) (s : List ℕ) (q : Request) → (read_request session s ≡ Ok q → Asks session s q) × (Asks session s q → read_request session s ≡ Ok q)
+ReadsAsked = (session : ℕ) (s : List ℕ) (q : Request)
+    → (read_request session s ≡ Ok q → Asks session s q)
+    × (Asks session s q → read_request session s ≡ Ok q)

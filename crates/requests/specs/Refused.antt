@@ -20,6 +20,28 @@ control = request (codes "control")
 abbrev bind_by : List ℕ → List ℕ
 bind_by session = request (codes "bind_session") (codes "LS_session=" ++ session)
 
+-- values that are right, and one that is none
+abbrev seven : List ℕ
+seven = codes "7"
+
+abbrev one : List ℕ
+one = codes "1"
+
+abbrev t1 : List ℕ
+t1 = codes "t1"
+
+abbrev all : List ℕ
+all = codes "all"
+
+abbrev merge : List ℕ
+merge = codes "MERGE"
+
+abbrev yes : List ℕ
+yes = codes "true"
+
+abbrev x : List ℕ
+x = codes "x"
+
 -- a control request that adds, with these values
 abbrev add_by : List ℕ → List ℕ → List ℕ → List ℕ → List ℕ → List ℕ → List ℕ
 add_by id subscription group schema mode snapshot =
@@ -29,7 +51,8 @@ add_by id subscription group schema mode snapshot =
 
 pub record Refusals : Type 0 where
   -- more than 2,048 bytes: 16 at 0, before all else
-  pub too_long : (session : ℕ) (s : List ℕ) → 2048 < length s → by_numbers (read_request session s) ≡ refused 16 0
+  pub too_long : (session : ℕ) (s : List ℕ) → 2048 < length s
+      → by_numbers (read_request session s) ≡ refused 16 0
   -- no CR LF: 2 at the text's end
   pub no_end : read (codes "control") ≡ refused 2 7
   pub end_turned : read (codes "control" ++ 10 ∷ 13 ∷ codes "LS_reqId=7") ≡ refused 2 19
@@ -80,48 +103,24 @@ pub record Refusals : Type 0 where
   pub has_before_values : read (control (codes "LS_reqId=-&LS_op=delete&LS_subId=0&LS_mode=x"))
       ≡ refused 6 44
   -- the other values, in their order, each at its first byte
-  pub request_id_empty :
-      read (add_by [] (codes "x") (codes "t1") (codes "all") (codes "MERGE") (codes "true"))
-      ≡ refused 8 18
-  pub request_id_long :
-      read (add_by (codes "123456789") (codes "1") (codes "t1") (codes "all") (codes "MERGE") (codes "true"))
-      ≡ refused 8 18
-  pub request_id :
-      read (add_by (codes "-") (codes "x") (codes "x") (codes "x") (codes "x") (codes "x"))
-      ≡ refused 8 18
-  pub id_zero :
-      read (add_by (codes "7") (codes "0") (codes "t1") (codes "all") (codes "MERGE") (codes "true"))
-      ≡ refused 4 39
-  pub id_leading :
-      read (add_by (codes "7") (codes "01") (codes "t1") (codes "all") (codes "MERGE") (codes "true"))
-      ≡ refused 4 39
-  pub id_high :
-      read (add_by (codes "7") (codes "10000") (codes "t1") (codes "all") (codes "MERGE") (codes "true"))
-      ≡ refused 4 39
-  pub id : read (add_by (codes "7") (codes "x") (codes "x") (codes "x") (codes "x") (codes "x"))
-      ≡ refused 4 39
-  pub group_zero :
-      read (add_by (codes "7") (codes "1") (codes "t0") (codes "all") (codes "MERGE") (codes "true"))
-      ≡ refused 8 50
-  pub group_bare :
-      read (add_by (codes "7") (codes "1") (codes "t") (codes "all") (codes "MERGE") (codes "true"))
-      ≡ refused 8 50
-  pub group : read (add_by (codes "7") (codes "1") (codes "x") (codes "x") (codes "x") (codes "x"))
-      ≡ refused 8 50
-  pub schema :
-      read (add_by (codes "7") (codes "1") (codes "t1") (codes "some") (codes "x") (codes "x"))
-      ≡ refused 8 63
-  pub mode :
-      read (add_by (codes "7") (codes "1") (codes "t1") (codes "all") (codes "RAW") (codes "x"))
-      ≡ refused 8 75
-  pub snapshot :
-      read (add_by (codes "7") (codes "1") (codes "t1") (codes "all") (codes "MERGE") (codes "false"))
-      ≡ refused 8 93
+  pub request_id_empty : read (add_by [] x t1 all merge yes) ≡ refused 8 18
+  pub request_id_long : read (add_by (codes "123456789") one t1 all merge yes) ≡ refused 8 18
+  pub request_id : read (add_by (codes "-") x x x x x) ≡ refused 8 18
+  pub id_zero : read (add_by seven (codes "0") t1 all merge yes) ≡ refused 4 39
+  pub id_leading : read (add_by seven (codes "01") t1 all merge yes) ≡ refused 4 39
+  pub id_high : read (add_by seven (codes "10000") t1 all merge yes) ≡ refused 4 39
+  pub id : read (add_by seven x x x x x) ≡ refused 4 39
+  pub group_zero : read (add_by seven one (codes "t0") all merge yes) ≡ refused 8 50
+  pub group_bare : read (add_by seven one (codes "t") all merge yes) ≡ refused 8 50
+  pub group : read (add_by seven one x x x x) ≡ refused 8 50
+  pub schema : read (add_by seven one t1 (codes "some") x x) ≡ refused 8 63
+  pub mode : read (add_by seven one t1 all (codes "RAW") x) ≡ refused 8 75
+  pub snapshot : read (add_by seven one t1 all merge (codes "false")) ≡ refused 8 93
   pub session : read (bind_by (codes "S2")) ≡ refused 8 25
   pub session_leading : read (bind_by (codes "S01")) ≡ refused 8 25
   -- and what stands at the limits is accepted
-  pub highest :
-      read (add_by (codes "abcDEF12") (codes "9999") (codes "t18446744073709551617") (codes "all") (codes "MERGE") (codes "true"))
+  pub highest : read (add_by (codes "abcDEF12") (codes "9999")
+      (codes "t18446744073709551617") all merge yes)
       ≡ accepted (add (codes "abcDEF12") 9999 (codes "t18446744073709551617"))
   pub longest : read (create (codes "LS_cid=" ++ replicate 64 97))
       ≡ accepted (requests.create (replicate 64 97) None None)

@@ -62,16 +62,21 @@ abbrev pub value_at_of : Parameter → Occurrences → ℕ
 value_at_of p ps = unwrap_or (option_map (λ x. x.value_at) (occurrence_of p ps)) 0
 
 abbrev pub add_occurrence : Parameter → ℕ → ℕ → Occurrences → List ℕ → Occurrences
-add_occurrence p at value_at ps t = with_occurrence p (record { at = at; value_at = value_at; text = t }) ps
+add_occurrence p at value_at ps t = with_occurrence p
+    (record { at = at; value_at = value_at; text = t }) ps
 
 -- a pair with a known name, from the place `at` on
 abbrev pub read_known : ℕ → ℕ → List ℕ → Occurrences → Option Parameter → Result Occurrences Refusal
 read_known at value_at raw ps None = Err (refusal Parts at)
-read_known at value_at raw ps (Some p) = let value = result_map_both (add_occurrence p at value_at ps) (λ e. e) (read_value value_at raw) in cond (is_given p ps) (Err (refusal Parts at)) value
+read_known at value_at raw ps (Some p) = let value = result_map_both
+    (add_occurrence p at value_at ps) (λ e. e) (read_value value_at raw) in cond (is_given p ps)
+    (Err (refusal Parts at)) value
 
-abbrev pub read_divided : Name → ℕ → List ℕ → Occurrences → Option (List ℕ) → Result Occurrences Refusal
+abbrev pub read_divided : Name → ℕ → List ℕ → Occurrences → Option (List ℕ)
+    → Result Occurrences Refusal
 read_divided n at s ps None = Err (refusal Shape at)
-read_divided n at s ps (Some raw) = read_known at (at + (place_of 61 s + 1)) raw ps (parameter_of n (before 61 s))
+read_divided n at s ps (Some raw) = read_known at (at + (place_of 61 s + 1)) raw ps
+    (parameter_of n (before 61 s))
 
 abbrev pub read_pair : Name → ℕ → List ℕ → Occurrences → Result Occurrences Refusal
 read_pair n at s ps = read_divided n at s ps (behind 61 s)
@@ -114,7 +119,8 @@ unfit taken ps (p ∷ more) = leftmost (unfit_of taken ps p) (unfit taken ps mor
 -- the values of these parameters are ones that they take
 abbrev pub check_values : ℕ → List Parameter → Occurrences → Result (Unit {0}) Refusal
 check_values session [] ps = Ok tt
-check_values session (p ∷ more) ps = cond (fitting session p (value_of p ps)) (check_values session more ps) (Err (refusal (fault_of p) (value_at_of p ps)))
+check_values session (p ∷ more) ps = cond (fitting session p (value_of p ps))
+    (check_values session more ps) (Err (refusal (fault_of p) (value_at_of p ps)))
 
 -- what the values of some parameters ask for in a form
 module _ (look : Parameter → Option (List ℕ)) where
@@ -133,22 +139,28 @@ module _ (look : Parameter → Option (List ℕ)) where
 
 abbrev pub fitting_or : ℕ → Form → Occurrences → Option ℕ → Result Request Refusal
 fitting_or session f ps (Some at) = Err (refusal Parts at)
-fitting_or session f ps None = and_then (check_values session (needs f) ps) (λ _. Ok (request_of (λ p. given_text p ps) f))
+fitting_or session f ps None = and_then (check_values session (needs f) ps)
+    (λ _. Ok (request_of (λ p. given_text p ps) f))
 
 -- what pairs ask for in this form
 abbrev pub read_form : ℕ → ℕ → Occurrences → Form → Result Request Refusal
-read_form session end ps f = let fit = fitting_or session f ps (unfit (takes f) ps parameters) in cond (lacks (needs f) ps) (Err (refusal Parts end)) fit
+read_form session end ps f = let fit = fitting_or session f ps
+    (unfit (takes f) ps parameters) in cond (lacks (needs f) ps) (Err (refusal Parts end)) fit
 
 -- what pairs ask for under this name
 abbrev pub read_named : ℕ → ℕ → Name → Occurrences → Result Request Refusal
-read_named session end n ps = cond (lacks (first_needs n) ps) (Err (refusal Parts end)) (and_then (form_of n ps) (read_form session end ps))
+read_named session end n ps = cond (lacks (first_needs n) ps) (Err (refusal Parts end))
+    (and_then (form_of n ps) (read_form session end ps))
 
 -- what stands behind the name and its CR LF
 abbrev pub read_body : ℕ → List ℕ → ℕ → Option Name → Result Request Refusal
 read_body session s at None = Err (refusal Unknown 0)
-read_body session s at (Some n) = and_then (read_pairs n at (divided_by 38 (drop at s)) no_occurrences) (read_named session (length s) n)
+read_body session s at (Some n) = and_then
+    (read_pairs n at (divided_by 38 (drop at s)) no_occurrences) (read_named session (length s) n)
 
 abbrev pub read_request : ℕ → List ℕ → Result Request Refusal
 read_request session s =
     let body = read_body session s (line_end s + 2) (name_of (take (line_end s) s)) in
-    cond (nat_le (length s) request_limit) (cond (nat_lt (line_end s) (length s)) body (Err (refusal Shape (length s)))) (Err (refusal Length 0))
+    cond (nat_le (length s) request_limit)
+    (cond (nat_lt (line_end s) (length s)) body (Err (refusal Shape (length s))))
+    (Err (refusal Length 0))

@@ -1,5 +1,5 @@
 -- The words of requests as lists of bytes, and which parameters each request needs and may have.
-use Rattle.std.specs.Prelude.{◌≡◌, ◌↔◌, ℕ, true, List, [], ◌∷◌, map, Some}
+use Rattle.std.specs.Prelude.{◌≡◌, ◌↔◌, ℕ, true, List, [], ◌∷◌, map, Some, Option}
 use Rattle.requests.specs.Names.{name_of, needs, operation_of, parameter_of, parameter_word, takes}
 use Rattle.requests.specs.Values.{fitting}
 use Rattle.requests.specs.declared.name.Form.TheVariants.{Create, Bind, Add, Delete, ForceRebind}
@@ -99,36 +99,38 @@ add_words =
     ls_reqid_bytes ∷ ls_op_bytes ∷ ls_subid_bytes ∷ ls_group_bytes ∷ ls_schema_bytes
     ∷ ls_mode_bytes ∷ ls_snapshot_bytes ∷ []
 
+-- x is found by this word and by no other
+abbrev pub Only : {X : Type 0} → (List ℕ → Option X) → X → List ℕ → Type 0
+Only of x word = (t : List ℕ) → of t ≡ Some x ↔ t ≡ word
+
 pub record Words : Type 0 where
   -- the names
-  pub name_create_session : (t : List ℕ) → name_of t ≡ Some CreateSession ↔ t ≡ create_session_bytes
-  pub name_bind_session : (t : List ℕ) → name_of t ≡ Some BindSession ↔ t ≡ bind_session_bytes
-  pub name_control : (t : List ℕ) → name_of t ≡ Some Control ↔ t ≡ control_bytes
+  pub name_create_session : Only name_of CreateSession create_session_bytes
+  pub name_bind_session : Only name_of BindSession bind_session_bytes
+  pub name_control : Only name_of Control control_bytes
   -- the parameters of each name
-  pub parameter_cid : (t : List ℕ) → parameter_of CreateSession t ≡ Some Cid ↔ t ≡ ls_cid_bytes
-  pub parameter_user : (t : List ℕ) → parameter_of CreateSession t ≡ Some User ↔ t ≡ ls_user_bytes
-  pub parameter_password :
-      (t : List ℕ) → parameter_of CreateSession t ≡ Some Password ↔ t ≡ ls_password_bytes
-  pub parameter_session :
-      (t : List ℕ) → parameter_of BindSession t ≡ Some Session ↔ t ≡ ls_session_bytes
-  pub parameter_request_id :
-      (t : List ℕ) → parameter_of Control t ≡ Some RequestId ↔ t ≡ ls_reqid_bytes
-  pub parameter_operation : (t : List ℕ) → parameter_of Control t ≡ Some Operation ↔ t ≡ ls_op_bytes
-  pub parameter_subscription_id :
-      (t : List ℕ) → parameter_of Control t ≡ Some SubscriptionId ↔ t ≡ ls_subid_bytes
-  pub parameter_group : (t : List ℕ) → parameter_of Control t ≡ Some Group ↔ t ≡ ls_group_bytes
-  pub parameter_schema : (t : List ℕ) → parameter_of Control t ≡ Some Schema ↔ t ≡ ls_schema_bytes
-  pub parameter_mode : (t : List ℕ) → parameter_of Control t ≡ Some Mode ↔ t ≡ ls_mode_bytes
-  pub parameter_snapshot :
-      (t : List ℕ) → parameter_of Control t ≡ Some Snapshot ↔ t ≡ ls_snapshot_bytes
+  pub parameter_cid : Only (parameter_of CreateSession) Cid ls_cid_bytes
+  pub parameter_user : Only (parameter_of CreateSession) User ls_user_bytes
+  pub parameter_password : Only (parameter_of CreateSession) Password ls_password_bytes
+  pub parameter_session : Only (parameter_of BindSession) Session ls_session_bytes
+  pub parameter_request_id : Only (parameter_of Control) RequestId ls_reqid_bytes
+  pub parameter_operation : Only (parameter_of Control) Operation ls_op_bytes
+  pub parameter_subscription_id : Only (parameter_of Control) SubscriptionId ls_subid_bytes
+  pub parameter_group : Only (parameter_of Control) Group ls_group_bytes
+  pub parameter_schema : Only (parameter_of Control) Schema ls_schema_bytes
+  pub parameter_mode : Only (parameter_of Control) Mode ls_mode_bytes
+  pub parameter_snapshot : Only (parameter_of Control) Snapshot ls_snapshot_bytes
   -- the operations
-  pub operation_add : (t : List ℕ) → operation_of t ≡ Some Add ↔ t ≡ add_bytes
-  pub operation_delete : (t : List ℕ) → operation_of t ≡ Some Delete ↔ t ≡ delete_bytes
-  pub operation_force_rebind : (t : List ℕ) → operation_of t ≡ Some ForceRebind ↔ t ≡ force_rebind_bytes
+  pub operation_add : Only operation_of Add add_bytes
+  pub operation_delete : Only operation_of Delete delete_bytes
+  pub operation_force_rebind : Only operation_of ForceRebind force_rebind_bytes
   -- the values of which there is one
-  pub value_schema : (session : ℕ) (t : List ℕ) → fitting session Schema t ≡ true ↔ t ≡ all_bytes
-  pub value_mode : (session : ℕ) (t : List ℕ) → fitting session Mode t ≡ true ↔ t ≡ merge_bytes
-  pub value_snapshot : (session : ℕ) (t : List ℕ) → fitting session Snapshot t ≡ true ↔ t ≡ true_bytes
+  pub value_schema : (session : ℕ) (t : List ℕ)
+      → fitting session Schema t ≡ true ↔ t ≡ all_bytes
+  pub value_mode : (session : ℕ) (t : List ℕ)
+      → fitting session Mode t ≡ true ↔ t ≡ merge_bytes
+  pub value_snapshot : (session : ℕ) (t : List ℕ)
+      → fitting session Snapshot t ≡ true ↔ t ≡ true_bytes
   -- what each needs, and what each may have
   pub create_needs : map parameter_word (needs Create) ≡ ls_cid_bytes ∷ []
   pub create_takes : map parameter_word (takes Create) ≡ create_words

@@ -11,5 +11,8 @@ pub returns-clause-pairs : goal.returns-clause-pairs
 returns-clause-pairs c =
     let d = draft_of c.args.self.now in
     let x = assign c.args.parameter c.args.value.now in
-    let answer : ◌≡◌ {A = Result (Unit {0}) Refusal} (Ok tt) (add_answer d x) = grind (arith, common_steps) in
-    λ xs h. holds_after d x xs h (Ok tt) _ (omega (arith, c.index-i.ensures.value, c.index-i.ensures.bound)) answer (grind (arith, common_steps))
+    let answer : ◌≡◌ {A = Result (Unit {0}) Refusal} (Ok tt) (add_answer d x) = grind
+    (arith, common_steps) in
+    λ xs h. holds_after d x xs h (Ok tt) _
+    (omega (arith, c.index-i.ensures.value, c.index-i.ensures.bound)) answer
+    (grind (arith, common_steps))

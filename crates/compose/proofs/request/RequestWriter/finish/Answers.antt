@@ -16,19 +16,27 @@ use Rattle.compose.proofs.request.RequestWriter.finish.Goals as goal
 use Rattle.compose.proofs.request.RequestWriter.finish.Goals.{After-drop-closing}
 
 -- the flag is set exactly where the request is finished
-left : (c : After-drop-closing) → c.drop-closing.new.self.0 ≡ left_by (closed (draft_of c.args.self))
+left : (c : After-drop-closing)
+    → c.drop-closing.new.self.0 ≡ left_by (closed (draft_of c.args.self))
 left c =
     let d = draft_of c.args.self in
-    let kept = c.is_ok.ensures.value ∙ ap is_ok c.request_len-answer.ensures ∙ sym (ok-finished d) in
+    let kept = c.is_ok.ensures.value ∙ ap is_ok c.request_len-answer.ensures
+    ∙ sym (ok-finished d) in
     c.drop-closing.ensures ∙ ap (λ k. left_by (record d { kept = k })) kept
 
-lengths : (c : After-drop-closing) → result_map_both (λ f. f.len) (λ e. e) c.map.result ≡ length_or (ending (draft_of c.args.self))
-lengths c = let same : result_map_both (λ f. f.len) (λ e. e) c.map.result ≡ c.request_len-answer.result = search rules in same ∙ c.request_len-answer.ensures ∙ sym (finished-length (draft_of c.args.self))
+lengths : (c : After-drop-closing)
+    → result_map_both (λ f. f.len) (λ e. e) c.map.result ≡ length_or (ending (draft_of c.args.self))
+lengths c = let same : result_map_both (λ f. f.len) (λ e. e) c.map.result
+    ≡ c.request_len-answer.result = search rules in same ∙ c.request_len-answer.ensures
+    ∙ sym (finished-length (draft_of c.args.self))
 
 -- a length that is answered is that of the pairs
-within : (name : Name) (xs : List Assignment) (r : Result Finished Refusal) → result_map_both (λ f. f.len) (λ e. e) r ≡ finish_answer name xs → length (written name xs) ≤ request_limit → IfOk r (λ f. f.len ≤ request_limit)
+within : (name : Name) (xs : List Assignment) (r : Result Finished Refusal)
+    → result_map_both (λ f. f.len) (λ e. e) r ≡ finish_answer name xs
+    → length (written name xs) ≤ request_limit → IfOk r (λ f. f.len ≤ request_limit)
 within name [] (Ok f) is short = absurd (let z : ◌≡◌ {A = ℕ} 0 1 = cc in omega arith)
-within name (x ∷ xs) (Ok f) is short = let same : f.len ≡ length (written name (x ∷ xs)) = cc in omega arith
+within name (x ∷ xs) (Ok f) is short = let same : f.len
+    ≡ length (written name (x ∷ xs)) = cc in omega arith
 within name xs (Err e) is short = tt
 
 pub returns-clause-bytes : goal.returns-clause-bytes
@@ -46,7 +54,8 @@ returns-clause-pairs c xs h =
 pub returns-clause-limit : goal.returns-clause-limit
 returns-clause-limit c xs h =
     let here = (goal.at.returns-clause-limit c).After-drop-closing in
-    within c.args.self.name xs here.map.result (lengths here ∙ (holds-finished (draft_of c.args.self) xs h).0) (within-limit _ xs h.fit)
+    within c.args.self.name xs here.map.result
+    (lengths here ∙ (holds-finished (draft_of c.args.self) xs h).0) (within-limit _ xs h.fit)
 
 pub returns-clause-reads : goal.returns-clause-reads
 returns-clause-reads c = reads-back reads-asked

@@ -12,5 +12,8 @@ returns c =
     let taken = c.args.taken.now in
     let ps = occurrences_in c.args.self.now in
     sym (option_map_id c.min.result)
-    ∙ min_from_yields_List c.filter_map.result c.min.result c.min.ensures.ran (YieldsList-from_filter_map _ (unfit_of taken ps) (YieldsList-from_slice parameters cc) c.filter_map.ensures.closure (λ x r q k. search (rules, tests)))
+    ∙ min_from_yields_List c.filter_map.result c.min.result c.min.ensures.ran
+    (YieldsList-from_filter_map _ (unfit_of taken ps)
+    (YieldsList-from_slice parameters cc) c.filter_map.ensures.closure
+    (λ x r q k. search (rules, tests)))
     ∙ sym (unfit-least taken ps parameters)

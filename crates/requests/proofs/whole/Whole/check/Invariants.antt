@@ -8,5 +8,7 @@ use Rattle.requests.proofs.whole.Whole.check.Given as goal
 abbrev pub invariant-loop-p : goal.invariant-loop-p
 invariant-loop-p l = record {
   left : lacks (drop l.p-index (needs l.self.form)) (occurrences_in l.self.pairs.now) ≡ false;
-  good : check_values l.session (needs l.self.form) (occurrences_in l.self.pairs.now) ≡ check_values l.session (drop l.p-index (needs l.self.form)) (occurrences_in l.self.pairs.now);
+  good : check_values l.session (needs l.self.form) (occurrences_in l.self.pairs.now)
+      ≡ check_values l.session (drop l.p-index (needs l.self.form))
+      (occurrences_in l.self.pairs.now);
 }
