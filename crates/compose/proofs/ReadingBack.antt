@@ -20,7 +20,7 @@ use Rattle.requests.specs.declared.name.Name.TheVariants.{CreateSession, BindSes
 use Rattle.requests.specs.declared.name.Parameter.{Parameter}
 use Rattle.requests.specs.declared.name.Parameter.TheVariants.{Cid, User, Password, Session, RequestId, Operation, SubscriptionId, Group, Schema, Mode, Snapshot}
 use Rattle.compose.specs.Written.{Assignment, given_by, head_text, written}
-use Rattle.compose.specs.Held.{Fits, WithinLimit}
+use Rattle.compose.specs.Held.{Writable, WithinLimit}
 use Rattle.compose.specs.ReadBack.{Keeps, value_in, ReadsBack}
 
 abbrev unit : Bool → ℕ
@@ -185,7 +185,7 @@ sound-given (x ∷ xs) bytes short = (
 
 -- pairs of a form are of its name
 pub keeps-fit : {session : ℕ} {name : Name} {form : Form} {xs : List Assignment}
-    → Keeps session name form xs → Fits name xs
+    → Keeps session name form xs → Writable name xs
 keeps-fit {name = name} {form = form} {xs = xs} k = record {
   known = All-weaker (λ x. is_in x.parameter (takes form) ≡ true)
       (λ x. is_in x.parameter (parameters_of name) ≡ true)

@@ -18,7 +18,7 @@ pub record Stands (name : Name) (xs : List Assignment) (bytes : List ℕ) (n : �
 
 -- pairs as a writer takes them: parameters of the name, none of them twice, and values within
 -- their limit
-pub record Fits (name : Name) (xs : List Assignment) : Type 0 where
+pub record Writable (name : Name) (xs : List Assignment) : Type 0 where
   pub known : AllByRecursion (λ x. is_in x.parameter (parameters_of name) ≡ true) xs
   pub apart : Apart (map given_by xs)
   pub short : AllByRecursion (λ x. length x.value ≤ value_limit) xs
@@ -31,7 +31,7 @@ pub record Holds (d : Draft) (xs : List Assignment) : Type 0 where
   pub places : length d.given ≡ parameter_count
   pub added : (p : Parameter)
       → slice_index_or d.given (index_of p) false ≡ is_some (found (map given_by xs) p)
-  pub fit : Fits d.name xs
+  pub fit : Writable d.name xs
 
 -- the pairs behind a call that was answered so
 abbrev pub pairs_after : Result (Unit {0}) Refusal → List Assignment → Assignment → List Assignment
@@ -54,4 +54,4 @@ finish_bytes name xs n = none_or xs (replicate n 0) (padded n (written name xs))
 -- what is written is never longer than a request may be
 abbrev pub WithinLimit : Type 0
 WithinLimit =
-    (name : Name) (xs : List Assignment) → Fits name xs → length (written name xs) ≤ request_limit
+    (name : Name) (xs : List Assignment) → Writable name xs → length (written name xs) ≤ request_limit

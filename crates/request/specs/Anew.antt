@@ -29,11 +29,15 @@ name_for (delete r id) = Control
 name_for (rebind r) = Control
 
 abbrev pub pairs_for : ℕ → Request → List Assignment
-pairs_for session (create c u w) = assign Cid c ∷ optional User u (optional Password (redacted w) [])
+pairs_for session (create c u w) =
+    assign Cid c ∷ optional User u (optional Password (redacted w) [])
 pairs_for session bind = assign Session (session_name session) ∷ []
 pairs_for session (add r id g) =
-    assign RequestId r ∷ assign Operation (codes "add") ∷ assign SubscriptionId (decimal id) ∷ assign Group g ∷ assign Schema (codes "all") ∷ assign Mode (codes "MERGE") ∷ assign Snapshot (codes "true") ∷ []
-pairs_for session (delete r id) = assign RequestId r ∷ assign Operation (codes "delete") ∷ assign SubscriptionId (decimal id) ∷ []
+    assign RequestId r ∷ assign Operation (codes "add") ∷ assign SubscriptionId
+    (decimal id) ∷ assign Group g ∷ assign Schema (codes "all") ∷ assign Mode
+    (codes "MERGE") ∷ assign Snapshot (codes "true") ∷ []
+pairs_for session (delete r id) =
+    assign RequestId r ∷ assign Operation (codes "delete") ∷ assign SubscriptionId (decimal id) ∷ []
 pairs_for session (rebind r) = assign RequestId r ∷ assign Operation (codes "force_rebind") ∷ []
 
 -- the request in some bytes
@@ -41,6 +45,7 @@ abbrev pub anew : ℕ → Request → List ℕ → Result Draft Refusal
 anew session q out = composing (name_for q) (pairs_for session q) out
 
 -- what is answered, and what is left in the bytes
-pub record Anew (session : ℕ) (q : Request) (out : List ℕ) (r : Result ℕ Refusal) (bytes : List ℕ) : Type 0 where
+pub record Anew (session : ℕ) (q : Request) (out : List ℕ) (r : Result ℕ Refusal)
+    (bytes : List ℕ) : Type 0 where
   pub length : r ≡ length_or (anew session q out)
   pub text : bytes ≡ bytes_or (zeroed_or (name_for q) out) (anew session q out)

@@ -1,4 +1,5 @@
-//! A request written anew by the request writer: its parameters in a fixed order, and its password kept back.
+//! A request written anew by the request writer: its parameters in a fixed order, and its password
+//! kept back.
 ghost use Rattle.std.specs.Prelude.{◌≡◌, ℕ};
 ghost use Rattle.std.specs.Option.{option_map};
 ghost use Rattle.requests.specs.Answers.{request_in};
@@ -20,7 +21,9 @@ fn create_anew(
     user: Option<Word>,
     password: Option<Word>,
 ) -> Result<usize, Refusal>
-    ensures { (session : ℕ) → Anew session (create (word_text cid) (option_map word_text user) (option_map word_text password)) out.old result out.new }
+    ensures { (session : ℕ) → Anew session
+        (create (word_text cid) (option_map word_text user) (option_map word_text password))
+        out.old result out.new }
 {
     let mut request = RequestWriter::new(out, Name::CreateSession);
     request.add(Parameter::Cid, cid.text())?;
@@ -42,7 +45,8 @@ fn bind_anew(out: &mut [u8], session: u32) -> Result<usize, Refusal>
 }
 
 fn add_anew(out: &mut [u8], request: Word, subscription: u32, group: Word) -> Result<usize, Refusal>
-    ensures { (session : ℕ) → Anew session (add (word_text request) subscription (word_text group)) out.old result out.new }
+    ensures { (session : ℕ) → Anew session
+        (add (word_text request) subscription (word_text group)) out.old result out.new }
 {
     let id = numbered(b"", subscription);
     let pairs = [
@@ -58,7 +62,8 @@ fn add_anew(out: &mut [u8], request: Word, subscription: u32, group: Word) -> Re
 }
 
 fn delete_anew(out: &mut [u8], request: Word, subscription: u32) -> Result<usize, Refusal>
-    ensures { (session : ℕ) → Anew session (delete (word_text request) subscription) out.old result out.new }
+    ensures { (session : ℕ) → Anew session
+        (delete (word_text request) subscription) out.old result out.new }
 {
     let id = numbered(b"", subscription);
     let pairs = [

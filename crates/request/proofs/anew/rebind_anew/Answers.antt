@@ -9,5 +9,6 @@ use Rattle.request.proofs.anew.rebind_anew.Goals as goal
 pub returns : goal.returns
 returns c session =
     let request = c.new.ensures ∙ ap (assign RequestId) c.text.ensures in
-    anew-from session (rebind (word_text c.args.request)) c.args.out.now c.compose.result c.compose.new.out _
+    anew-from session
+    (rebind (word_text c.args.request)) c.args.out.now c.compose.result c.compose.new.out _
     (λ i. request i ∷ c.new-2.ensures i ∷ []) c.compose.ensures.answer c.compose.ensures.bytes
