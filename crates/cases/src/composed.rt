@@ -34,7 +34,12 @@ fn check_fault(rt: &impl Abort, answer: Result<usize, Refusal>, number: u8) -> R
     Ok(())
 }
 
-fn check_request(rt: &impl Abort, name: Name, pairs: &[Assignment<'_>], text: &[u8]) -> Result<(), Fail> {
+fn check_request(
+    rt: &impl Abort,
+    name: Name,
+    pairs: &[Assignment<'_>],
+    text: &[u8],
+) -> Result<(), Fail> {
     let mut out = [b'?'; 300];
     let answer = compose(&mut out, name, pairs);
     check_bytes(rt, &out, answer, text)
@@ -79,7 +84,12 @@ fn escaped_values(rt: HostRuntime) -> Result<(), Fail> {
 }
 
 // A request that its last pair spoils leaves only zeros.
-fn check_left(rt: &impl Abort, out: &mut [u8], pairs: &[Assignment<'_>], number: u8) -> Result<(), Fail> {
+fn check_left(
+    rt: &impl Abort,
+    out: &mut [u8],
+    pairs: &[Assignment<'_>],
+    number: u8,
+) -> Result<(), Fail> {
     out.fill(b'?');
     let answer = compose(out, Name::CreateSession, pairs);
     check_fault(rt, answer, number)?;
@@ -148,7 +158,10 @@ fn pairs_between_refusals(rt: HostRuntime) -> Result<(), Fail> {
 fn name_without_room(rt: HostRuntime) -> Result<(), Fail> {
     let mut out = [b'?'; 15];
     let mut request = RequestWriter::new(&mut out, Name::CreateSession);
-    assert_eq!(rt; request.add(Parameter::Mode, b"c").map_err(numbered), Err((16, 0)));
+    assert_eq!(rt;
+        request.add(Parameter::Mode, b"c").map_err(numbered),
+        Err((16, 0))
+    );
     let answer = request.finish().map(|finished| finished.len);
     check_fault(&rt, answer, 16)?;
     assert!(rt; are_all(&out, b'?'));
