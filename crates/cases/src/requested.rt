@@ -96,6 +96,11 @@ fn shapes(rt: HostRuntime) -> Result<(), Fail> {
             (b"control\r\nLS_reqId=+%", Err((3, 19))),
             (b"control\r\nLS_reqId=a b", Err((8, 18))),
             (b"control\r\nLS_reqId=a=b", Err((8, 18))),
+            (b"control\r\nLS_reqId=a+b", Err((8, 18))),
+            (
+                b"create_session\r\nLS_cid=+aaaaaaaaaaaaaaaaaaaaaaaaaaaaaaaaaaaaaaaaaaaaaaaaaaaaaaaaaaaaaaaaa",
+                Err((8, 23)),
+            ),
             (
                 b"create_session\r\nLS_cid=aaaaaaaaaaaaaaaaaaaaaaaaaaaaaaaaaaaaaaaaaaaaaaaaaaaaaaaaaaaaaaaaa",
                 Err((16, 0)),

@@ -1,29 +1,30 @@
-//! The pairs of a request.
+//! The pairs of a request, read from left to right and kept by their parameters.
 ghost use Rattle.std.specs.Prelude.{◌≡◌, true, Some};
 ghost use Rattle.std.specs.Option.{option_map};
 ghost use Rattle.std.specs.Result.{result_map_both};
-ghost use Rattle.requests.specs.Read.{pair_in, pairs_in, word_text};
+ghost use Rattle.requests.specs.Read.{occurrence_in, occurrences_in, word_text};
 ghost use Rattle.tlcp.specs.Dividing.{divided_by};
-ghost use Rattle.requests.specs.Requests.{no_pairs, pair_of, read_pair, read_pairs, text_of, is_given, lacks, unfit_of, unfit, parameters};
+ghost use Rattle.requests.specs.Requests.{no_occurrences, occurrence_of, read_pair, read_pairs, given_text, is_given, lacks, unfit_of, unfit, parameters};
 
 use crate::name::{Name, PARAMETER_COUNT, Parameter, is_in};
 use crate::request::Part;
 use crate::word::{Word, read_value};
 use row::{Fault, Refusal};
 
-// A pair: where it stands, where its value stands, and the value.
+// A parameter that occurs in a request: where its pair stands, where its value stands, and the
+// value.
 #[derive(Clone, Copy)]
-pub(crate) struct Pair {
+pub(crate) struct Occurrence {
     at: usize,
     pub(crate) value_at: usize,
     pub(crate) word: Word,
 }
 
-// The pairs that have been read, each at the place of its parameter.
+// The parameters that have occurred so far, each at its index.
 #[derive(Clone, Copy)]
-pub(crate) struct Pairs {
-    // kept: an array by parameter index, and no map: no heap, by the project's rule
-    slots: [Option<Pair>; PARAMETER_COUNT],
+pub(crate) struct Occurrences {
+    // an array, since a request is read without allocating
+    slots: [Option<Occurrence>; PARAMETER_COUNT],
 }
 
 const PARAMETERS: [Parameter; PARAMETER_COUNT] = [
@@ -40,20 +41,20 @@ const PARAMETERS: [Parameter; PARAMETER_COUNT] = [
     Parameter::Snapshot,
 ];
 
-impl Pairs {
-    pub(crate) const NONE: Pairs = Pairs {
+impl Occurrences {
+    pub(crate) const NONE: Occurrences = Occurrences {
         slots: [None; PARAMETER_COUNT],
     };
 
-    pub(crate) fn get(&self, parameter: Parameter) -> Option<Pair>
-        ensures { option_map pair_in result ≡ pair_of parameter (pairs_in self.now) }
+    pub(crate) fn get(&self, parameter: Parameter) -> Option<Occurrence>
+        ensures { option_map occurrence_in result ≡ occurrence_of parameter (occurrences_in self.now) }
     {
         self.slots[parameter.index()]
     }
 
     // Reads a pair.
     pub(crate) fn add(&mut self, name: Name, pair: Part<'_>) -> Result<(), Refusal>
-        ensures { result_map_both (λ _. pairs_in self.new) (λ e. e) result ≡ read_pair name pair.entry.at pair.entry.bytes.now (pairs_in self.old) }
+        ensures { result_map_both (λ _. occurrences_in self.new) (λ e. e) result ≡ read_pair name pair.entry.at pair.entry.bytes.now (occurrences_in self.old) }
     {
         let (word, value) = pair.cut(b'=');
         let value = value.ok_or(Fault::Shape.at(pair.at))?;
@@ -62,7 +63,7 @@ impl Pairs {
         if self.get(parameter).is_some() {
             return Err(unfit);
         }
-        self.slots[parameter.index()] = Some(Pair {
+        self.slots[parameter.index()] = Some(Occurrence {
             at: pair.at,
             value_at: value.at,
             word: read_value(value)?,
@@ -72,29 +73,29 @@ impl Pairs {
 
     // The value of a parameter, if it is given.
     pub(crate) fn word(&self, parameter: Parameter) -> Option<Word>
-        ensures { option_map word_text result ≡ text_of parameter (pairs_in self.now) }
+        ensures { option_map word_text result ≡ given_text parameter (occurrences_in self.now) }
     {
         self.get(parameter).map(|pair| pair.word)
     }
 
     // The pair of a parameter that is given.
-    pub(crate) fn given(&self, parameter: Parameter) -> Pair
-        requires { is_given parameter (pairs_in self.now) ≡ true }
-        ensures { Some (pair_in result) ≡ pair_of parameter (pairs_in self.now) }
+    pub(crate) fn given(&self, parameter: Parameter) -> Occurrence
+        requires { is_given parameter (occurrences_in self.now) ≡ true }
+        ensures { Some (occurrence_in result) ≡ occurrence_of parameter (occurrences_in self.now) }
     {
         self.get(parameter).unwrap()
     }
 
     // Whether one of these is missing.
     pub(crate) fn lack(&self, some: &[Parameter]) -> bool
-        ensures { result ≡ lacks some.now (pairs_in self.now) }
+        ensures { result ≡ lacks some.now (occurrences_in self.now) }
     {
         some.iter().any(|p| self.get(*p).is_none())
     }
 
     // Where the pair of a parameter stands, if it is given and none of these.
     fn unfit_at(&self, taken: &[Parameter], parameter: Parameter) -> Option<usize>
-        ensures { result ≡ unfit_of taken.now (pairs_in self.now) parameter }
+        ensures { result ≡ unfit_of taken.now (occurrences_in self.now) parameter }
     {
         if is_in(parameter, taken) {
             return None;
@@ -104,7 +105,7 @@ impl Pairs {
 
     // Where the leftmost pair stands that is none of these.
     pub(crate) fn unfit(&self, taken: &[Parameter]) -> Option<usize>
-        ensures { result ≡ unfit taken.now (pairs_in self.now) parameters }
+        ensures { result ≡ unfit taken.now (occurrences_in self.now) parameters }
     {
         PARAMETERS
             .iter()
@@ -114,10 +115,10 @@ impl Pairs {
 }
 
 // Reads the pairs of a request's body.
-pub(crate) fn read_pairs(body: Part<'_>, name: Name) -> Result<Pairs, Refusal>
-    ensures { result_map_both pairs_in (λ e. e) result ≡ read_pairs name body.entry.at (divided_by 38 body.entry.bytes.now) no_pairs }
+pub(crate) fn read_pairs(body: Part<'_>, name: Name) -> Result<Occurrences, Refusal>
+    ensures { result_map_both occurrences_in (λ e. e) result ≡ read_pairs name body.entry.at (divided_by 38 body.entry.bytes.now) no_occurrences }
 {
-    let mut pairs = Pairs::NONE;
+    let mut pairs = Occurrences::NONE;
     let mut left = Some(body);
     while let Some(part) = left {
         let (pair, rest) = part.cut(b'&');
