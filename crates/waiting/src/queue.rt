@@ -30,7 +30,24 @@ pub struct Queue<'a, R: Value> {
 
 impl<R: Value> Queue<'_, R> {
     ghost use Rattle.waiting.specs.Layouts.{Exact};
+    ghost use Rattle.waiting.specs.Policies.{nothing_waits};
     ghost use Rattle.waiting.specs.Queues.{queue_rows, queued};
+
+    // A queue where nothing waits.
+    pub(crate) fn over<'a>(changes: &'a mut [Change<R>]) -> Queue<'a, R>
+        requires { length changes.old ≡ queue_limit }
+        ensures meaning { queued R.kind result ≡ nothing_waits }
+        ensures exact { Exact R.kind queue_rows result.changes.now (queued R.kind result) }
+        ensures lent { result.changes.ghost_name ≡ changes.entry.ghost_name }
+    {
+        blank(changes);
+        Queue {
+            changes,
+            // any tap's number
+            taps: [1; PAIR_LIMIT],
+            len: 0,
+        }
+    }
 
     // Removes the pair at a place: those behind it move up.
     fn remove(&mut self, i: usize)
@@ -142,13 +159,7 @@ impl<'a, R: Value> OverSlice<'a, R> for Queue<'a, R> {
         if changes.len() != QUEUE_LIMIT {
             return Err(Unfit { changes });
         }
-        blank(changes);
-        Ok(Queue {
-            changes,
-            // any tap's number
-            taps: [1; PAIR_LIMIT],
-            len: 0,
-        })
+        Ok(Queue::over(changes))
     }
 
     fn memory(&self) -> &[Change<R>] {
