@@ -1,3 +1,5 @@
 pub mod Places
 pub mod Holding
 pub mod Fed
+pub mod Printing
+pub mod Known

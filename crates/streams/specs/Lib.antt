@@ -1,4 +1,6 @@
 pub mod Ends
+pub mod Lines
+pub mod Answers
 pub mod Held
 pub mod Feeding
 pub mod Heard

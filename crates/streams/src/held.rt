@@ -1,12 +1,13 @@
 // The bytes of a line that has not ended. Of a long line only the first are held.
 ghost use Rattle.std.specs.Prelude.{◌≡◌, take, OnOk};
-ghost use Rattle.streams.specs.Held.{bare, kept};
+ghost use Rattle.streams.specs.Held.{held_with};
+ghost use Rattle.streams.specs.Lines.{bare};
 
 use std::alloc::AllocError;
 
 // Further bytes, as long as there are no more than the limit.
 pub fn hold(held: &mut Vec<u8>, bytes: &[u8], limit: usize) -> Result<(), AllocError>
-    ensures { OnOk result (held.new.items ≡ kept limit held.old.items bytes.now) }
+    ensures { OnOk result (held.new.items ≡ held_with limit held.old.items bytes.now) }
 {
     held.extend_from_slice(front(bytes, limit.saturating_sub(held.len())))?;
     Ok(())

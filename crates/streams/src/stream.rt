@@ -19,7 +19,7 @@ struct Counted<H> {
 impl<H: Hear> Counted<H> {
     // Hears a line, given without its end, and appends its number and the answer.
     fn hear(&mut self, line: &[u8], out: &mut Vec<u8>) -> Result<(), AllocError>
-        ensures { OnOk result (HeardLine (hear_line H.hearing (state_with self.old []) line.now) self.new out.old.items out.new.items) }
+        ensures { OnOk result (HeardLine (hear_line H.LIMIT H.hearing (state_with self.old []) line.now) self.new out.old.items out.new.items) }
     {
         self.count = self.count.saturating_add(1);
         push_number(out, self.count)?;
@@ -40,8 +40,8 @@ impl<H: Hear> Stream<H> {
     // A stream before its first byte.
     pub fn new(heap: Global, listener: H) -> Stream<H>
         ensures state { state_of result ≡ fresh listener }
-        ensures blocks { CutAnywhere H.hearing }
-        ensures prints { PrintsAll H.hearing }
+        ensures blocks { CutAnywhere H.LIMIT H.hearing }
+        ensures prints { PrintsAll H.LIMIT H.hearing }
     {
         Stream {
             counted: Counted { listener, count: 0 },
@@ -51,7 +51,7 @@ impl<H: Hear> Stream<H> {
 
     // Hears the line whose last bytes these are. One that came whole need not be held.
     fn end_line(&mut self, bytes: &[u8], out: &mut Vec<u8>) -> Result<(), AllocError>
-        ensures { OnOk result (Fed (ended H.hearing (keep H.hearing (state_of self.old) bytes.now)) self.new out.old.items out.new.items) }
+        ensures { OnOk result (Fed (ended H.LIMIT H.hearing (keep H.LIMIT H.hearing (state_of self.old) bytes.now)) self.new out.old.items out.new.items) }
     {
         if self.held.is_empty() {
             return self.counted.hear(without_cr(front(bytes, H::LIMIT)), out);
@@ -64,7 +64,7 @@ impl<H: Hear> Stream<H> {
 
     // Takes some bytes of the input, and appends the answers to the lines that end in them.
     pub fn feed(&mut self, block: &[u8], out: &mut Vec<u8>) -> Result<(), AllocError>
-        ensures { OnOk result (Fed (fed H.hearing (state_of self.old) block.now) self.new out.old.items out.new.items) }
+        ensures { OnOk result (Fed (fed H.LIMIT H.hearing (state_of self.old) block.now) self.new out.old.items out.new.items) }
     {
         let mut left = block;
         loop {
@@ -80,7 +80,7 @@ impl<H: Hear> Stream<H> {
 
     // Hears a last line that has no end, if there is one.
     fn last_line(&mut self, out: &mut Vec<u8>) -> Result<(), AllocError>
-        ensures { OnOk result (Fed (last_line H.hearing (state_of self.old)) self.new out.old.items out.new.items) }
+        ensures { OnOk result (Fed (last_line H.LIMIT H.hearing (state_of self.old)) self.new out.old.items out.new.items) }
     {
         if !self.held.is_empty() {
             self.counted.hear(&self.held, out)?;
@@ -91,7 +91,7 @@ impl<H: Hear> Stream<H> {
 
     // The input has ended: answers a last line that has no end, and appends what is said at the end.
     pub fn finish(&mut self, out: &mut Vec<u8>) -> Result<(), AllocError>
-        ensures { OnOk result (Fed (finished H.hearing (state_of self.old)) self.new out.old.items out.new.items) }
+        ensures { OnOk result (Fed (finished H.LIMIT H.hearing (state_of self.old)) self.new out.old.items out.new.items) }
     {
         self.last_line(out)?;
         self.counted.listener.close(out)
