@@ -6,7 +6,7 @@ use Rattle.std.proofs.lemmas.Bool.{and_from, cond-false, cond-true, eq-eqb}
 use Rattle.row.specs.Canonical.{canonical-map, means-canonical}
 use Rattle.row.specs.Kinds.{Kind, Lawful}
 use Rattle.row.specs.Limits.{field_limit}
-use Rattle.row.specs.Records.{canonical, change_of, held}
+use Rattle.row.specs.Records.{canonical, change_of, change_record}
 use Rattle.row.specs.Rows.{all_same}
 use Rattle.row.specs.declared.change.Change.{Change}
 use Rattle.waiting.specs.Lists.{pair}
@@ -25,7 +25,7 @@ module _ {R : Type 0} (k : Kind R) (law : Lawful k) where
   kept-one t ds new is whole =
       let e = map (change_of k) (take field_limit new) in
       let means : e ≡ map (change_of k) ds = ap (λ cs. map (change_of k) (take field_limit cs)) is ∙ means-stored ds whole in
-      is ∙ canonical-map k ds ∙ ap (map (held k)) (sym means ∙ sym (append-nil e) ∙ sym (append-nil (e ++ [])))
+      is ∙ canonical-map k ds ∙ ap (map (change_record k)) (sym means ∙ sym (append-nil e) ∙ sym (append-nil (e ++ [])))
 
   -- the list where nothing waited, and now one pair does
   pub put-one : (old : Option ℕ) (cs ds new : List (Change R)) (t : ℕ) → new ≡ map (canonical k) ds → length ds ≡ field_limit → (queue_of 1).takes (pairs_in k (option_to_list old) cs) t ≡ true → all_same (map (change_of k) ds) ≡ false → pairs_in k (t ∷ []) new ≡ put_list (queue_of 1) (pairs_in k (option_to_list old) cs) t (map (change_of k) ds)

@@ -1,4 +1,4 @@
-// Plays scripts on a buffer of any kind.
+//! Plays scripts on a buffer of any kind.
 use crate::sample::{Sample, Spelling, check_delta, put};
 use row::{Change, FIELD_LIMIT, Fault, Refusal, Tap};
 use std::alloc::Global;

@@ -1,4 +1,4 @@
-// Deltas with either kind of value, by texts.
+//! Deltas with either kind of value, by texts.
 use row::{Change, FIELD_LIMIT, LogicRecord, Mark, Refusal, TEXT_LIMIT, Tap, TextRecord, Value};
 use std::alloc::Global;
 use std::process::Abort;

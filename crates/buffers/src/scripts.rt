@@ -1,4 +1,4 @@
-// Runs of each kind of buffer, with each kind of value.
+//! Runs of each kind of buffer, with each kind of value.
 use crate::player::Act::{CopyOver, DropFirst, Forget, Put, PutAll, PutUnfit, Takes, Turn};
 use crate::player::Waits::{Both, Each, Empty, Still};
 use crate::player::{FULL, Layout, Memory, NOTHING, Script, TAKEN, play};

@@ -1,9 +1,9 @@
-// The single: one delta waits at most, and a second one is refused until the first is dropped.
+//! The single: one delta waits at most, and a second one is refused until the first is dropped.
 ghost use Rattle.std.specs.Prelude.{◌≡◌, true, map, length, replicate};
 ghost use Rattle.std.specs.List.{list_all};
 ghost use Rattle.std.specs.Option.{option_to_list};
 ghost use Rattle.row.specs.Limits.{field_limit};
-ghost use Rattle.row.specs.Records.{canonical, held};
+ghost use Rattle.row.specs.Records.{canonical, change_record};
 ghost use Rattle.row.specs.Rows.{same};
 ghost use Rattle.row.specs.Taps.{is_tap};
 ghost use Rattle.waiting.specs.Rows.{rows_wait};
@@ -11,7 +11,7 @@ ghost use Rattle.waiting.specs.Rows.{rows_wait};
 use row::{Change, FIELD_LIMIT, Fault, Refusal, Tap, Value, all_same, blank, canonicalize};
 use waiting::{Pair, Unfit, Waiting};
 
-// The number of the tap whose delta waits, if one does, and the delta: all same where none waits.
+/// The number of the tap whose delta waits, if one does, and the delta: all same where none waits.
 // kept: a number and no `Tap`, as in `Queue`
 #[derive(Drop)]
 pub struct Single<'a, R: Value> {
@@ -44,7 +44,7 @@ impl<R: Value> Single<'_, R> {
     // Lets nothing wait.
     fn clear(&mut self)
         ensures tap { self.new.tap ≡ None }
-        ensures changes { self.new.changes.now ≡ replicate field_limit (held R.kind same) }
+        ensures changes { self.new.changes.now ≡ replicate field_limit (change_record R.kind same) }
         ensures lent { self.new.changes.ghost_name ≡ self.old.changes.ghost_name }
     {
         self.tap = None;
@@ -66,7 +66,7 @@ impl<'a, R: Value> Waiting<'a, R> for Single<'a, R> {
 
     ghost lawful = { single-lawful };
 
-    ghost held = { λ s. single-held R.kind s.tap s.changes.now s.whole s.known s.busy };
+    ghost change_record = { λ s. single-held R.kind s.tap s.changes.now s.whole s.known s.busy };
 
     fn places() -> usize {
         FIELD_LIMIT

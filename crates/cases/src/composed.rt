@@ -1,4 +1,4 @@
-// Requests, written by the viewer.
+//! Requests, written by the viewer.
 use crate::refused::numbered;
 use compose::{Pair, RequestWriter, compose};
 use requests::{Name, Parameter};

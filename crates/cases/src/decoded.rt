@@ -1,4 +1,4 @@
-// Texts with escapes, and the bytes that they stand for.
+//! Texts with escapes, and the bytes that they stand for.
 use crate::refused::numbered;
 use std::test::*;
 use tlcp::decode;

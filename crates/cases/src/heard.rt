@@ -1,4 +1,4 @@
-// Lines that a viewer hears, and what comes of them.
+//! Lines that a viewer hears, and what comes of them.
 use crate::refused::{Numbered, numbered};
 use row::{CELL_LIMIT, Cell, Change, FIELD_LIMIT, TAP_LIMIT, TextRecord, whole_row};
 use std::process::Abort;

@@ -1,4 +1,4 @@
-// Values of each kind: their texts, their records, and what an unsound record means.
+//! Values of each kind: their texts, their records, and what an unsound record means.
 use row::{LogicRecord, TEXT_LIMIT, TextRecord, Value};
 use std::process::Abort;
 use std::test::*;

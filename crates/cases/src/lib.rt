@@ -1,4 +1,4 @@
-// Tables of examples, as tests.
+//! Tables of examples, as tests.
 #![tactic(auto)]
 
 #[cfg(test)]

@@ -1,4 +1,4 @@
-// Lines written, and read back.
+//! Lines written, and read back.
 use crate::refused::number;
 use notify::{Message, write_line, write_update};
 use row::{Change, FIELD_LIMIT, Mark, TEXT_LIMIT, TextRecord};

@@ -1,4 +1,4 @@
-// A refusal, as it stands in a table.
+//! A refusal, as it stands in a table.
 use row::Refusal;
 
 // The number of its fault, and its place.

@@ -1,4 +1,4 @@
-// Requests, as they are read in the session with the number 1.
+//! Requests, as they are read in the session with the number 1.
 use crate::refused::{Numbered, numbered};
 use Asked::{Add, Bind, Create, Delete, Rebind};
 use requests::{REQUEST_LIMIT, Request, read_request};

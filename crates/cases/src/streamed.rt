@@ -1,4 +1,4 @@
-// A stream of lines, cut into blocks, and answered from a reader to a writer.
+//! A stream of lines, cut into blocks, and answered from a reader to a writer.
 ghost use Rattle.std.specs.Prelude.{ℕ, [], ◌∷◌};
 
 use row::Fault;

@@ -1,4 +1,4 @@
-// Value lists, written and read back.
+//! Value lists, written and read back.
 use crate::refused::number;
 use row::{Change, FIELD_LIMIT, Mark, TEXT_LIMIT, TextRecord, Value};
 use std::process::Abort;

@@ -2,7 +2,7 @@
 use Rattle.std.proofs.Common.{◌≡◌, ℕ, ◌+◌, ◌-◌, ◌<◌, ◌≤◌, Bool, true, false, cond, not, ◌&&◌, leb, List, [], ◌∷◌, ◌++◌, map, length, replicate, is_some, Ok, Err, Result, sym, refl, ap, ◌∙◌, subst, ⊎_elim, append_assoc, arith}
 use Rattle.std.proofs.lemmas.List.{append-nil, length-append, length-drop, length-take-le}
 use Rattle.std.proofs.lemmas.Bool.{and_cases, and_parts, and_from, and_left, and_right, cond-true, cond-false, leb-true, leb-false, le-leb, lt-leb}
-use Rattle.tlcp.specs.Lists.{refusal}
+use Rattle.row.specs.Faults.{refusal}
 use Rattle.row.specs.Texts.{padded}
 use Rattle.row.specs.declared.fault.Fault.TheVariants.{Parts}
 use Rattle.row.specs.declared.fault.Refusal.{Refusal}

@@ -4,7 +4,7 @@ use Rattle.std.specs.List.{flat_map}
 use Rattle.std.proofs.lemmas.List.{append-nil, length-append, length-replicate, length-set, get_or_past, get_or-replicate, get_or-set_same, get_or-set_other, flat_map_more, map_push, take_at, drop_at, drop-drop, drop-replicate}
 use Rattle.std.proofs.lemmas.Bool.Decides.{nat_tests}
 use Rattle.std.proofs.lemmas.Bool.{cases_lt, and_parts, both_ways, cases_eq, eq-eqb, ne_eqb, leb-true, not-true, or_right, or_from}
-use Rattle.tlcp.specs.Lists.{refusal}
+use Rattle.row.specs.Faults.{refusal}
 use Rattle.row.specs.Texts.{padded}
 use Rattle.row.specs.declared.fault.Fault.TheVariants.{Parts}
 use Rattle.row.specs.declared.fault.Refusal.{Refusal}

@@ -9,7 +9,7 @@ use Rattle.requests.specs.Limits.{value_limit}
 use Rattle.requests.specs.Names.{is_in, parameters_of}
 use Rattle.requests.specs.declared.name.Name.{Name}
 use Rattle.tlcp.specs.Lines.{and_then}
-use Rattle.tlcp.specs.Said.{on_ok}
+use Rattle.std.specs.Result.{result_map_both}
 use Rattle.compose.specs.Drafts.{Draft, add_answer, add_to, begin_answer, begin_in, unbegun}
 use Rattle.compose.specs.Written.{Pair, given_by, head_text, written}
 
@@ -42,7 +42,7 @@ abbrev pub composing : Name → List Pair → List ℕ → Result Draft Refusal
 composing name xs out = and_then (begin_answer (unbegun name out)) (λ _. add_all (begin_in (unbegun name out)) xs)
 
 abbrev pub length_or : Result Draft Refusal → Result ℕ Refusal
-length_or = on_ok (λ d. d.len)
+length_or = result_map_both (λ d. d.len) (λ e. e)
 
 -- what is left in the bytes, where they would be `other` without a request
 abbrev pub bytes_or : List ℕ → Result Draft Refusal → List ℕ

@@ -1,6 +1,6 @@
 -- A request that is being written: what its writer holds, and what each call makes of that.
 use Rattle.std.specs.Prelude.{ℕ, ◌+◌, Bool, true, false, cond, not, ◌&&◌, List, length, replicate, Ok, Err, Result, None, Some, Option, ◌==◌, nat_le, slice_index_or, slice_set}
-use Rattle.tlcp.specs.Lists.{refusal}
+use Rattle.row.specs.Faults.{refusal}
 use Rattle.row.specs.Texts.{padded}
 use Rattle.row.specs.declared.fault.Fault.TheVariants.{Parts}
 use Rattle.row.specs.declared.fault.Refusal.{Refusal}

@@ -1,4 +1,4 @@
-// Requests, written by the viewer into lent bytes.
+//! Requests, written by the viewer into lent bytes.
 #![tactic(auto)]
 
 mod pair;

@@ -1,4 +1,4 @@
-// A pair of a request.
+//! A pair of a request.
 ghost use Rattle.std.specs.Prelude.{◌≡◌};
 ghost use Rattle.compose.specs.Pairs.{pair_in};
 ghost use Rattle.compose.specs.Written.{pair};

@@ -1,4 +1,4 @@
-// The parts of a request, written into lent bytes.
+//! The parts of a request, written into lent bytes.
 ghost use Rattle.std.specs.Prelude.{◌≡◌};
 ghost use Rattle.tlcp.specs.Written.{end_or, placed_or};
 ghost use Rattle.compose.specs.Pairs.{pair_in};

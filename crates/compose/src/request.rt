@@ -1,4 +1,4 @@
-// A request that is being written into lent bytes.
+//! A request that is being written into lent bytes.
 ghost use Rattle.std.specs.Prelude.{◌≡◌, List, [], length, replicate, if◌then◌else◌, OnOk};
 ghost use Rattle.compose.specs.Written as written;
 ghost use Rattle.compose.specs.Written.{pair};
@@ -20,8 +20,8 @@ struct Begun {
     given: [bool; PARAMETER_COUNT],
 }
 
-// Holds the lent bytes until the request is finished. A password may be among them by then, so a request
-// that is left before leaves only zeros.
+/// Holds the lent bytes until the request is finished. A password may be among them by then, so a request
+/// that is left before leaves only zeros.
 // kept: the flag, by the project's rule: `drop` zeroes the bytes unless it is set, as it is before `begin` and by `finish`
 pub struct RequestWriter<'a> {
     out: &'a mut [u8],
@@ -30,7 +30,7 @@ pub struct RequestWriter<'a> {
     kept: bool,
 }
 
-// The receipt of a finished request: how many of the bytes it takes.
+/// The receipt of a finished request: how many of the bytes it takes.
 #[derive(Clone, Copy)]
 pub struct Finished {
     pub len: usize,
@@ -54,7 +54,7 @@ impl Drop for RequestWriter<'_> {
 
 // kept: `lent` in three contracts; an invariant speaks of one state, and this says that a call leaves the same bytes lent
 impl<'a> RequestWriter<'a> {
-    // A writer over lent bytes, which leaves them alone until its request begins.
+    /// A writer over lent bytes, which leaves them alone until its request begins.
     pub fn new(out: &'a mut [u8], name: Name) -> RequestWriter<'a>
         ensures draft { draft_of result ≡ unbegun name out.old }
         ensures lent { result.out.ghost_name ≡ out.entry.ghost_name }
@@ -67,7 +67,7 @@ impl<'a> RequestWriter<'a> {
         }
     }
 
-    // Begins a request without pairs, if its name fits: all bytes behind that are zeros then.
+    /// Begins a request without pairs, if its name fits: all bytes behind that are zeros then.
     pub fn begin(&mut self) -> Result<(), Refusal>
         ensures answer { result ≡ begin_answer (draft_of self.old) }
         ensures draft { draft_of self.new ≡ begin_in (draft_of self.old) }
@@ -82,7 +82,7 @@ impl<'a> RequestWriter<'a> {
         Ok(())
     }
 
-    // Adds a pair behind those before it.
+    /// Adds a pair behind those before it.
     pub fn add(&mut self, parameter: Parameter, value: &[u8]) -> Result<(), Refusal>
         ensures answer { result ≡ add_answer (draft_of self.old) (pair parameter value.now) }
         ensures draft { draft_of self.new ≡ add_to (draft_of self.old) (pair parameter value.now) }
@@ -105,7 +105,7 @@ impl<'a> RequestWriter<'a> {
         Ok(())
     }
 
-    // The bytes are the caller's again, with the request in them.
+    /// The bytes are the caller's again, with the request in them.
     pub fn finish(self) -> Finished
         ensures len { result.len ≡ (draft_of self.entry).len }
         ensures bytes { self.exit.0.now ≡ self.entry.out.now }

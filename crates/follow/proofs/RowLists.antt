@@ -4,12 +4,11 @@ use Rattle.std.proofs.lemmas.List.{take-map, length-map}
 use Rattle.std.proofs.Math.Seq.{drop-append-add, take-append_seam}
 use Rattle.std.proofs.lemmas.Bool.{cond-true, and_parts, leb-true, le-leb, eq-eqb}
 use Rattle.row.specs.Limits.{field_limit}
-use Rattle.row.specs.Records.{cell_of, change_of, wholly}
+use Rattle.row.specs.Records.{cell_of, change_of}
 use Rattle.row.specs.Rows.{becomes, row_at}
 use Rattle.row.specs.Kinds.{Kind, Lawful}
 use Rattle.row.specs.declared.change.Cell.{Cell}
 use Rattle.row.specs.declared.change.Change.{Change}
-use Rattle.row.proofs.Over.{wholly-means}
 use Rattle.tlcp.specs.Bounds.{extended, has_room, list_extended}
 use Rattle.tlcp.specs.Lists.{written_list}
 use Rattle.tlcp.specs.Written.{changes_of, covers, list_limit}
@@ -18,12 +17,14 @@ use Rattle.viewer.specs.declared.entry.Entry.{Entry}
 use Rattle.follow.specs.Answers.{list_text, row_text, rows_from, rows_text}
 
 -- a whole row's list, appended to nothing
-pub row-list : {R : Type 0} (k : Kind R) → Lawful k → (row : List (Cell R)) (fields : ℕ) (delta : List (Change R)) → delta ≡ map wholly row → length row ≡ field_limit → list_extended k list_limit [] delta fields ≡ list_text k row fields
-row-list k law row fields delta whole long =
+pub row-list : {R : Type 0} (k : Kind R) → Lawful k → (row : List (Cell R)) (fields : ℕ) (delta : List (Change R)) → map (change_of k) delta ≡ map becomes (map (cell_of k) row) → length row ≡ field_limit → list_extended k list_limit [] delta fields ≡ list_text k row fields
+row-list k law row fields delta means long =
     cond-true (length delta == field_limit) _ [] (eq-eqb (length delta) field_limit whole-row) ∙ by (covers fields) refl
   where
     whole-row : length delta ≡ field_limit
-    whole-row = ap length whole ∙ length-map row wholly ∙ long
+    whole-row =
+        sym (length-map delta (change_of k)) ∙ ap length means
+        ∙ length-map (map (cell_of k) row) becomes ∙ length-map row (cell_of k) ∙ long
 
     list : List ℕ
     list = written_list (changes_of k delta fields)
@@ -32,7 +33,7 @@ row-list k law row fields delta whole long =
     list-is =
         ap written_list
         (sym (take-map (change_of k) fields delta)
-        ∙ ap (take fields) (ap (map (change_of k)) whole ∙ wholly-means k row))
+        ∙ ap (take fields) means)
 
     fits : covers fields ≡ true → has_room list_limit [] list ≡ true
     fits some =

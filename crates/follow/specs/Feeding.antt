@@ -2,7 +2,7 @@
 use Rattle.std.specs.Prelude.{ℕ, ◌+◌, List, [], ◌∷◌, map, replicate}
 use Rattle.row.specs.Limits.{field_limit, cell_limit}
 use Rattle.row.specs.Kinds.{Kind}
-use Rattle.row.specs.Records.{held, null_cell}
+use Rattle.row.specs.Records.{change_record, null_cell}
 use Rattle.row.specs.Rows.{same}
 use Rattle.tlcp.specs.Limits.{line_limit}
 use Rattle.viewer.specs.Hearing.{Outcome, heard}
@@ -37,7 +37,7 @@ module _ {R : Type 0} (k : Kind R) where
   opened = record {
     viewer = record { entries = map waiting (1 ∷ 2 ∷ 3 ∷ 4 ∷ 5 ∷ 6 ∷ 7 ∷ 8 ∷ []) };
     cells = replicate cell_limit (null_cell k);
-    delta = replicate field_limit (held k same);
+    delta = replicate field_limit (change_record k same);
   }
 
   -- all that a follower prints of an input

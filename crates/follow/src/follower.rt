@@ -1,4 +1,4 @@
-// A viewer of values of a kind, as the listener of a stream.
+//! A viewer of values of a kind, as the listener of a stream.
 ghost use Rattle.std.specs.Prelude.{◌≡◌};
 ghost use Rattle.follow.specs.Feeding.{held_limit, hearing, opened};
 
@@ -18,7 +18,7 @@ pub struct Follower<V> {
 }
 
 impl<V: Value> Follower<V> {
-    // A viewer whose entries hold the IDs 1 to 8, closed, and nothing heard.
+    /// A viewer whose entries hold the IDs 1 to 8, closed, and nothing heard.
     pub fn new() -> Follower<V>
         ensures { result ≡ opened V.kind }
     {

@@ -1,4 +1,4 @@
-// The kinds of value that the program hears, by the words for them.
+//! The kinds of value that the program hears, by the words for them.
 ghost use Rattle.std.specs.Prelude.{◌≡◌};
 ghost use Rattle.follow.specs.Words.{kind_named, kind_word};
 
@@ -24,7 +24,7 @@ impl Worded for Kind {
 }
 
 impl Kind {
-    // The kind that a word stands for.
+    /// The kind that a word stands for.
     // kept: an Option says all there is; TryFrom would want an error that says no more
     pub fn named(word: &str) -> Option<Kind>
         ensures { result ≡ kind_named word.now }

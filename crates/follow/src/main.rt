@@ -1,4 +1,4 @@
-// Hears a TLCP stream on standard input, says what came of each line, and prints the open rows at the end.
+//! Hears a TLCP stream on standard input, says what came of each line, and prints the open rows at the end.
 #![tactic(auto)]
 
 ghost use Rattle.std.specs.Prelude.{◌+◌, ◌^◌, ◌<◌, length, IfSome, OnOk};
@@ -33,7 +33,7 @@ fn chosen(rt: &HostRuntime) -> anyhow::Result<Kind> {
     Kind::named(&word).context(USAGE)
 }
 
-// Answers the lines of an input with values of a kind, and prints the open rows behind its end.
+/// Answers the lines of an input with values of a kind, and prints the open rows behind its end.
 pub fn follow<V: Value, R: Read, W: Write>(
     rt: &impl AllocGlobal,
     follower: Follower<V>,

@@ -1,4 +1,4 @@
-// The answers to lines, as they are printed.
+//! The answers to lines, as they are printed.
 ghost use Rattle.std.specs.Prelude.{◌≡◌, ◌++◌, OnOk};
 ghost use Rattle.follow.specs.Answers.{answer_text};
 

@@ -1,4 +1,4 @@
-// The open rows, as they are printed at the end.
+//! The open rows, as they are printed at the end.
 ghost use Rattle.std.specs.Prelude.{◌≡◌, ◌++◌, length, OnOk};
 ghost use Rattle.row.specs.Limits.{field_limit};
 ghost use Rattle.follow.specs.Answers.{list_text, row_text, rows_text};

@@ -1,6 +1,6 @@
 -- What writing a line leaves in lent memory, and what it answers.
 use Rattle.std.specs.Prelude.{ℕ, Bool, cond, List, [], ◌∷◌, length, Err, Result, ◌==◌, nat_le}
-use Rattle.tlcp.specs.Lists.{refusal}
+use Rattle.row.specs.Faults.{refusal}
 use Rattle.row.specs.Kinds.{Kind}
 use Rattle.row.specs.Limits.{field_limit}
 use Rattle.row.specs.Records.{memory_refusal}

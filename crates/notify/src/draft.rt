@@ -1,9 +1,9 @@
-// A line composed argument by argument.
+//! A line composed argument by argument.
 ghost use Rattle.std.specs.Prelude.{◌≡◌, true, ◌∷◌, length};
 ghost use Rattle.row.specs.Limits.{field_limit};
 ghost use Rattle.tlcp.specs.Lines.{word};
 ghost use Rattle.tlcp.specs.Written.{changes_of, covers, end_or, placed_or};
-ghost use Rattle.tlcp.specs.Said.{on_ok};
+ghost use Rattle.std.specs.Result.{result_map_both};
 ghost use Rattle.notify.specs.Back.{Bytes};
 ghost use Rattle.notify.specs.Given.{code, list, number, spell, text};
 ghost use Rattle.notify.specs.Composed.{extended, held};
@@ -30,7 +30,7 @@ impl Draft {
 
     // Each argument stands behind a comma.
     pub(crate) fn number(mut self, n: u32) -> Result<Draft, Refusal>
-        ensures { on_ok held result ≡ extended (held self) (44 ∷ spell (number n)) }
+        ensures { result_map_both held (λ e. e) result ≡ extended (held self) (44 ∷ spell (number n)) }
     {
         self.line.put(b",")?;
         self.line.put_number(u64::from(n))?;
@@ -38,7 +38,7 @@ impl Draft {
     }
 
     pub(crate) fn code(mut self, n: i32) -> Result<Draft, Refusal>
-        ensures { on_ok held result ≡ extended (held self) (44 ∷ spell (code n)) }
+        ensures { result_map_both held (λ e. e) result ≡ extended (held self) (44 ∷ spell (code n)) }
     {
         self.line.put(if n < 0 { b",-" } else { b"," })?;
         self.line.put_number(u64::from(n.unsigned_abs()))?;
@@ -47,7 +47,7 @@ impl Draft {
 
     // A text is given by the bytes that it means.
     pub(crate) fn text(mut self, meant: &[u8]) -> Result<Draft, Refusal>
-        ensures line { on_ok held result ≡ extended (held self) (44 ∷ spell (text meant.now)) }
+        ensures line { result_map_both held (λ e. e) result ≡ extended (held self) (44 ∷ spell (text meant.now)) }
         ensures bytes { Bytes meant.now }
     {
         self.line.put(b",")?;
@@ -63,7 +63,7 @@ impl Draft {
     ) -> Result<Draft, Refusal>
         requires whole { length delta.now ≡ field_limit }
         requires covered { covers fields ≡ true }
-        ensures { on_ok held result ≡ extended (held self) (44 ∷ spell (list (changes_of R.kind delta.now fields))) }
+        ensures { result_map_both held (λ e. e) result ≡ extended (held self) (44 ∷ spell (list (changes_of R.kind delta.now fields))) }
     {
         self.line.put(b",")?;
         self.line.put_list(delta, fields)?;

@@ -1,4 +1,4 @@
-// The emulator's lines, written.
+//! The emulator's lines, written.
 #![tactic(auto)]
 
 mod draft;

@@ -1,10 +1,10 @@
-// What a line is to say, and whether its numbers are within their limits.
+//! What a line is to say, and whether its numbers are within their limits.
 ghost use Rattle.std.specs.Prelude.{◌≡◌};
 ghost use Rattle.notify.specs.Given.{saying_of, within};
 
 use tlcp::{CODE_LIMIT, Limits, Tag};
 
-// A message of every tag but U. Texts are given as the bytes that they mean; item and item count are always 1.
+/// A message of every tag but U. Texts are given as the bytes that they mean; item and item count are always 1.
 // kept: apart from `tlcp::Notification`, which has U, the items, and texts as they stand in a line
 #[derive(Clone, Copy)]
 pub enum Message<'a> {

@@ -1,10 +1,10 @@
-// Lines written into lent memory.
+//! Lines written into lent memory.
 ghost use Rattle.std.specs.Prelude.{◌≡◌, true, length, OnOk};
 ghost use Rattle.std.specs.List.{AllByRecursion};
 ghost use Rattle.row.specs.Limits.{field_limit};
 ghost use Rattle.tlcp.specs.Written.{covers};
 ghost use Rattle.tlcp.specs.Lines.{word};
-ghost use Rattle.tlcp.specs.Said.{on_ok};
+ghost use Rattle.std.specs.Result.{result_map_both};
 ghost use Rattle.tlcp.specs.declared.tag.Tag.TheVariants.{U};
 ghost use Rattle.notify.specs.Back.{LineUnbroken, ReadBack, Sound, UpdateBack, UpdateShort, UpdateUnbroken};
 ghost use Rattle.notify.specs.Given.{saying_of};
@@ -18,7 +18,7 @@ use tlcp::{Limits, Tag, UNCOVERED, covers};
 
 // The line of a message, composed.
 fn compose(message: Message<'_>) -> Result<Draft, Refusal>
-    ensures line { on_ok held result ≡ composed (word (saying_of message.entry).tag) (saying_of message.entry).given }
+    ensures line { result_map_both held (λ e. e) result ≡ composed (word (saying_of message.entry).tag) (saying_of message.entry).given }
     ensures bytes { OnOk result (AllByRecursion Sound (saying_of message.entry).given) }
 {
     let line = Draft::of(message.into());
@@ -59,7 +59,7 @@ fn compose(message: Message<'_>) -> Result<Draft, Refusal>
     }
 }
 
-// Writes the line of a message, without its end, from the place `at` on, if it fits, and answers the place behind it.
+/// Writes the line of a message, without its end, from the place `at` on, if it fits, and answers the place behind it.
 pub fn write_line(out: &mut [u8], at: usize, message: Message<'_>) -> Result<usize, Refusal>
     ensures answer { result ≡ line_answer (saying_of message.entry) at out.old }
     ensures bytes { out.new ≡ line_placed (saying_of message.entry) at out.old }
@@ -77,13 +77,13 @@ pub fn write_line(out: &mut [u8], at: usize, message: Message<'_>) -> Result<usi
 fn compose_update<R: Value>(id: u32, delta: &[Change<R>], fields: usize) -> Result<Draft, Refusal>
     requires whole { length delta.now ≡ field_limit }
     requires covered { covers fields ≡ true }
-    ensures { on_ok held result ≡ composed (word U) (update_of R.kind id delta.now fields).given }
+    ensures { result_map_both held (λ e. e) result ≡ composed (word U) (update_of R.kind id delta.now fields).given }
 {
     Draft::of(Tag::U).number(id)?.number(1)?.list(delta, fields)
 }
 
-// Writes the line that updates the first fields of a row, without its end, from the place `at` on, if it fits, and answers
-// the place behind it.
+/// Writes the line that updates the first fields of a row, without its end, from the place `at` on, if it fits, and answers
+/// the place behind it.
 pub fn write_update<R: Value>(
     out: &mut [u8],
     at: usize,

@@ -5,7 +5,7 @@ use Rattle.std.proofs.ByRecursion.{All-weaker}
 use Rattle.std.proofs.lemmas.List.{length-replicate, take_at}
 use Rattle.std.proofs.lemmas.Bool.{and_from, cond_both, cond-true, le-leb}
 use Rattle.std.proofs.lemmas.Bool.Decides.{nat_tests}
-use Rattle.tlcp.specs.Said.{on_ok}
+use Rattle.std.specs.Result.{result_map_both}
 use Rattle.row.specs.Every.{all-bytes}
 use Rattle.row.specs.Texts.{every, is_byte, padded}
 use Rattle.tlcp.specs.Bytes.{is_hex, is_plain}
@@ -170,7 +170,7 @@ same-written session q same =
     let can : composes name xs out ≡ true = and_from _ _ (are-short xs k.short) room in
     let (answer, left) = composes-all name xs out known k.apart in
     sym (text_of (composing name xs out) (zeroed_or name out) (compose_answer name xs out) (composed_or name xs out) (sym answer) (sym left))
-    ∙ (λ i. on_ok (λ n. take n (cond-true (composes name xs out) (padded (length out) text) (zeroed_or name out) can i)) (cond-true (composes name xs out) (Ok (length text)) (Err no_room) can i))
+    ∙ (λ i. result_map_both (λ n. take n (cond-true (composes name xs out) (padded (length out) text) (zeroed_or name out) can i)) (λ e. e) (cond-true (composes name xs out) (Ok (length text)) (Err no_room) can i))
     ∙ ap Ok (take_at text (replicate (length out - length text) 0) (length text) refl)
 
 pub shows_same : ShowsSame

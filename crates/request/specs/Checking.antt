@@ -2,8 +2,8 @@
 use Rattle.std.specs.Prelude.{ℕ, cond, List, ◌++◌, length, take, replicate, Some, None, Ok, Err, codes, Option, Result, nat_le}
 use Rattle.tlcp.specs.Lines.{and_then}
 use Rattle.row.specs.Faults.{printed}
-use Rattle.tlcp.specs.Said.{on_ok}
-use Rattle.tlcp.specs.Lists.{refusal}
+use Rattle.std.specs.Result.{result_map_both}
+use Rattle.row.specs.Faults.{refusal}
 use Rattle.row.specs.declared.fault.Fault.TheVariants.{Length, Shape}
 use Rattle.row.specs.declared.fault.Refusal.{Refusal}
 use Rattle.requests.specs.Limits.{request_limit}
@@ -14,7 +14,7 @@ use Rattle.request.specs.Spelling.{spelled, unspelled}
 
 -- the request written anew
 abbrev pub anew_text : ℕ → Request → Result (List ℕ) Refusal
-anew_text session q = on_ok (λ d. take d.len d.bytes) (anew session q (replicate request_limit 0))
+anew_text session q = result_map_both (λ d. take d.len d.bytes) (λ e. e) (anew session q (replicate request_limit 0))
 
 -- what came of the bytes that a line stands for
 abbrev pub read_spelled : ℕ → Option (List ℕ) → Result (List ℕ) Refusal

@@ -1,4 +1,4 @@
-// A request written anew by the request writer: its parameters in a fixed order, and its password kept back.
+//! A request written anew by the request writer: its parameters in a fixed order, and its password kept back.
 ghost use Rattle.std.specs.Prelude.{◌≡◌, ℕ};
 ghost use Rattle.std.specs.Option.{option_map};
 ghost use Rattle.requests.specs.Answers.{request_in};

@@ -1,6 +1,6 @@
-// The answer to a line.
+//! The answer to a line.
 ghost use Rattle.std.specs.Prelude.{◌≡◌, ◌++◌, take, replicate, OnOk};
-ghost use Rattle.tlcp.specs.Said.{on_ok};
+ghost use Rattle.std.specs.Result.{result_map_both};
 ghost use Rattle.requests.specs.Limits.{request_limit};
 ghost use Rattle.request.specs.Checking.{answer_text, checked};
 
@@ -12,13 +12,13 @@ use row::{Fault, Refusal};
 use std::alloc::AllocError;
 use streams::{front, push_refusal};
 
-// The bytes of a line, without its end.
+/// The bytes of a line, without its end.
 pub const SPELLED_LIMIT: usize = 8192;
 
 // Reads the request that a line spells, and writes it anew.
 fn check(line: &[u8], session: u32, text: &mut [u8]) -> Result<usize, Refusal>
     requires { text.old ≡ replicate request_limit 0 }
-    ensures { on_ok (λ n. take n text.new) result ≡ checked session line.now }
+    ensures { result_map_both (λ n. take n text.new) (λ e. e) result ≡ checked session line.now }
 {
     if line.len() > SPELLED_LIMIT {
         return Err(Fault::Length.at(0));

@@ -1,4 +1,4 @@
-// Requests checked line by line, as the listener of a stream.
+//! Requests checked line by line, as the listener of a stream.
 ghost use Rattle.std.specs.Prelude.{◌≡◌};
 ghost use Rattle.request.specs.Feeding.{hearing};
 ghost use Rattle.request.specs.Limits.{held_limit};
@@ -9,7 +9,7 @@ use crate::answer::{SPELLED_LIMIT, push_answer};
 use std::alloc::AllocError;
 use streams::Hear;
 
-// The session whose requests are checked.
+/// The session whose requests are checked.
 #[derive(Drop)]
 pub struct Checker {
     session: u32,

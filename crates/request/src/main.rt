@@ -1,4 +1,4 @@
-// Checks requests, one on each line of standard input, as the emulator would read them.
+//! Checks requests, one on each line of standard input, as the emulator would read them.
 #![tactic(auto)]
 
 ghost use Rattle.std.specs.Prelude.{◌+◌, ◌^◌, ◌<◌, length, IfSome, OnOk};
@@ -35,7 +35,7 @@ fn chosen(rt: &HostRuntime) -> anyhow::Result<u32> {
     session_named(&word).context(USAGE)
 }
 
-// Answers the lines of an input as requests for a session.
+/// Answers the lines of an input as requests for a session.
 pub fn check<R: Read, W: Write>(
     rt: &impl AllocGlobal,
     session: u32,

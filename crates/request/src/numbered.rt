@@ -1,4 +1,4 @@
-// A number behind a word, as text.
+//! A number behind a word, as text.
 ghost use Rattle.std.specs.Prelude.{◌≡◌, ◌≤◌, ◌++◌, length, decimal};
 ghost use Rattle.tlcp.specs.Bounds.{text_of};
 

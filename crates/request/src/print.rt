@@ -1,4 +1,4 @@
-// Bytes, as they are spelled on one line.
+//! Bytes, as they are spelled on one line.
 ghost use Rattle.std.specs.Prelude.{◌≡◌, ◌++◌, OnOk};
 ghost use Rattle.request.specs.Spelling.{spelled, spelled_byte};
 

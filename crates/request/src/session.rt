@@ -1,4 +1,4 @@
-// Sessions by their number.
+//! Sessions by their number.
 ghost use Rattle.std.specs.Prelude.{◌≡◌};
 ghost use Rattle.request.specs.Arguments.{session_named};
 
@@ -9,7 +9,7 @@ const SESSIONS: Limits = Limits {
     high: 99_999,
 };
 
-// The session that a word names.
+/// The session that a word names.
 // kept: an Option says all there is; TryFrom would want an error that says no more, and a type of its own
 pub fn session_named(word: &str) -> Option<u32>
     ensures { result ≡ session_named word.now }

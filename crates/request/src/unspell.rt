@@ -1,4 +1,4 @@
-// A request on one line: `\r`, `\n`, `\\` and `\xHH` stand for bytes.
+//! A request on one line: `\r`, `\n`, `\\` and `\xHH` stand for bytes.
 ghost use Rattle.std.specs.Prelude.{◌≡◌, ◌≤◌, length, Some};
 ghost use Rattle.std.specs.Option.{option_map};
 ghost use Rattle.request.specs.Limits.{spelled_limit};
@@ -8,18 +8,18 @@ use crate::answer::SPELLED_LIMIT;
 use arrayvec::ArrayVec;
 use tlcp::hex_of;
 
-// What has been read of a byte that is not yet known.
+/// What has been read of a byte that is not yet known.
 #[derive(Clone, Copy)]
 pub enum Behind {
     Nothing,
     Backslash,
-    // `\x`
+    /// `\x`
     Hex,
-    // `\x` and a digit
+    /// `\x` and a digit
     High(u8),
 }
 
-// What a byte of a line does: with it a byte is known, or more is read of one.
+/// What a byte of a line does: with it a byte is known, or more is read of one.
 #[derive(Clone, Copy)]
 pub enum Step {
     Byte(u8),

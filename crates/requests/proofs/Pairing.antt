@@ -9,7 +9,7 @@ use Rattle.std.proofs.lemmas.Bool.{cases_Bool, cond-true, cond-false, both_ways,
 use Rattle.std.proofs.lemmas.Bool.Decides.{nat_tests}
 use Rattle.std.proofs.lemmas.Grind.{common_steps}
 use Rattle.tlcp.specs.Lines.{and_then}
-use Rattle.tlcp.specs.Said.{on_ok}
+use Rattle.std.specs.Result.{result_map_both}
 use Rattle.row.specs.declared.fault.Refusal.{Refusal}
 use Rattle.row.specs.Texts.{every}
 use Rattle.tlcp.specs.Escapes.{decoded}
@@ -41,7 +41,7 @@ pub then_ok : {X Y : Type 0} (r : Result X Refusal) (f : X → Result Y Refusal)
 then_ok (Ok x) f y e = (x, refl, e)
 then_ok (Err r) f y e = refused e
 
-on-ok : {X Y : Type 0} (f : X → Y) (r : Result X Refusal) (y : Y) → on_ok f r ≡ Ok y → (x : X) × (r ≡ Ok x) × (f x ≡ y)
+on-ok : {X Y : Type 0} (f : X → Y) (r : Result X Refusal) (y : Y) → result_map_both f (λ e. e) r ≡ Ok y → (x : X) × (r ≡ Ok x) × (f x ≡ y)
 on-ok f (Ok x) y e = (x, refl, cc)
 on-ok f (Err r) y e = refused e
 
@@ -190,7 +190,7 @@ module _ (n : Name) (at : ℕ) (ps : Pairs) where
       ap (read_divided n at (spelling g) ps) (whole-behind 61 (parameter_word p) g.raw plain)
       ∙ ap (read_known at value_at g.raw ps) (ap (parameter_of n) (before-whole 61 (parameter_word p) g.raw plain) ∙ in-first (parameters_of n) p member)
       ∙ cond-false _ _ _ (sym (given-text p ps) ∙ ap is_some fresh)
-      ∙ ap (on_ok (add_pair p at value_at ps)) (read-value value_at g sound)
+      ∙ ap (result_map_both (add_pair p at value_at ps) (λ e. e)) (read-value value_at g sound)
 
 -- the value of a parameter, or else what it was before
 abbrev or_else : Option (List ℕ) → Option (List ℕ) → Option (List ℕ)

@@ -1,7 +1,7 @@
 -- What a request that was read means.
 use Rattle.std.specs.Option.{option_map}
 use Rattle.std.specs.Prelude.{Result}
-use Rattle.tlcp.specs.Said.{on_ok}
+use Rattle.std.specs.Result.{result_map_both}
 use Rattle.row.specs.declared.fault.Refusal.{Refusal}
 use Rattle.requests.specs.Read.{word_text}
 use Rattle.requests.specs.Requests as asks
@@ -17,4 +17,4 @@ request_in (Delete request id) = delete (word_text request) id
 request_in (ForceRebind request) = rebind (word_text request)
 
 abbrev pub asked : Result Request Refusal → Result asks.Request Refusal
-asked = on_ok request_in
+asked = result_map_both request_in (λ e. e)

@@ -2,9 +2,9 @@
 use Rattle.std.specs.Prelude.{ℕ, ◌+◌, min, Bool, cond, not, List, [], ◌∷◌, length, take, drop, replicate, is_some, Some, None, Ok, Err, Option, Result, nat_le, nat_lt, slice_index_or, slice_set}
 use Rattle.std.specs.List.{list_any}
 use Rattle.std.specs.Option.{option_map, unwrap_or}
-use Rattle.tlcp.specs.Lists.{refusal}
+use Rattle.row.specs.Faults.{refusal}
 use Rattle.tlcp.specs.Lines.{and_then}
-use Rattle.tlcp.specs.Said.{on_ok}
+use Rattle.std.specs.Result.{result_map_both}
 use Rattle.row.specs.declared.fault.Fault.TheVariants.{Shape, Unknown, Parts, Value, Length}
 use Rattle.row.specs.declared.fault.Refusal.{Refusal}
 use Rattle.tlcp.specs.Limits.{id_limit}
@@ -67,7 +67,7 @@ add_pair p at value_at ps t = with_pair p (record { at = at; value_at = value_at
 -- a pair with a known name, from the place `at` on
 abbrev pub read_known : ℕ → ℕ → List ℕ → Pairs → Option Parameter → Result Pairs Refusal
 read_known at value_at raw ps None = Err (refusal Parts at)
-read_known at value_at raw ps (Some p) = let value = on_ok (add_pair p at value_at ps) (read_value value_at raw) in cond (is_given p ps) (Err (refusal Parts at)) value
+read_known at value_at raw ps (Some p) = let value = result_map_both (add_pair p at value_at ps) (λ e. e) (read_value value_at raw) in cond (is_given p ps) (Err (refusal Parts at)) value
 
 abbrev pub read_divided : Name → ℕ → List ℕ → Pairs → Option (List ℕ) → Result Pairs Refusal
 read_divided n at s ps None = Err (refusal Shape at)

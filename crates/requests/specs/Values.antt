@@ -1,6 +1,6 @@
 -- The values of parameters: which bytes may stand for one, and which values each parameter takes.
 use Rattle.std.specs.Prelude.{ℕ, ◌+◌, Bool, true, cond, not, ◌&&◌, List, ◌∷◌, length, drop, is_some, Some, None, Ok, Err, codes, decimal, Option, Result, ◌==◌, nat_le, slice_index}
-use Rattle.tlcp.specs.Lists.{refusal}
+use Rattle.row.specs.Faults.{refusal}
 use Rattle.row.specs.Texts.{every}
 use Rattle.row.specs.declared.fault.Fault.{Fault}
 use Rattle.row.specs.declared.fault.Fault.TheVariants.{Escape, Number, Value, Length}

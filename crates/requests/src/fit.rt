@@ -1,4 +1,4 @@
-// The values that parameters take.
+//! The values that parameters take.
 ghost use Rattle.std.specs.Prelude.{◌≡◌};
 ghost use Rattle.row.specs.Texts.{every};
 ghost use Rattle.requests.specs.Values.{fault_of, fitting, is_group, is_numeral, is_request_id, session_name};
@@ -8,7 +8,7 @@ use crate::name::Parameter;
 use row::Fault;
 use tlcp::{Class, Limits, all_of, is_word, read_number};
 
-// The characters of a request's ID.
+/// The characters of a request's ID.
 pub const REQUEST_ID_LIMIT: usize = 8;
 
 // The numbers of sessions.

@@ -1,4 +1,4 @@
-// Requests from the viewer, as the emulator reads them.
+//! Requests from the viewer, as the emulator reads them.
 #![tactic(auto)]
 
 mod fit;

@@ -1,4 +1,4 @@
-// The names of requests and of their parameters.
+//! The names of requests and of their parameters.
 ghost use Rattle.std.specs.Prelude.{◌≡◌, ◌<◌};
 ghost use Rattle.requests.specs.Names.{name_word, parameter_word, form_word, index_of, parameter_count, parameters_of, name_of, parameter_of, first_needs, operation_of, needs, takes, is_in};
 
@@ -26,10 +26,10 @@ pub enum Parameter {
     Snapshot,
 }
 
-// How many parameters there are.
+/// How many parameters there are.
 pub const PARAMETER_COUNT: usize = 11;
 
-// What a request asks for: its name, and of a control request its operation.
+/// What a request asks for: its name, and of a control request its operation.
 #[derive(Clone, Copy, PartialEq, Eq, Debug)]
 pub enum Form {
     Create,
@@ -57,7 +57,7 @@ impl Worded for Name {
 }
 
 impl Name {
-    // The name that a word stands for.
+    /// The name that a word stands for.
     // kept: an Option says all there is; TryFrom would want an error that says no more
     pub fn of(word: &[u8]) -> Option<Name>
         ensures { result ≡ name_of word.now }
@@ -65,7 +65,7 @@ impl Name {
         first_with(&NAMES, word)
     }
 
-    // The parameters of any request of this name.
+    /// The parameters of any request of this name.
     pub fn parameters(self) -> &'static [Parameter]
         ensures { result.now ≡ parameters_of self }
     {
@@ -117,7 +117,7 @@ impl Worded for Parameter {
 }
 
 impl Parameter {
-    // The parameter of a name that a word stands for.
+    /// The parameter of a name that a word stands for.
     // kept: an Option says all there is, and TryFrom takes one argument
     pub fn of(name: Name, word: &[u8]) -> Option<Parameter>
         ensures { result ≡ parameter_of name word.now }
@@ -186,7 +186,7 @@ impl Form {
     }
 }
 
-// Whether a parameter is one of some.
+/// Whether a parameter is one of some.
 pub fn is_in(parameter: Parameter, some: &[Parameter]) -> bool
     ensures { result ≡ is_in parameter some.now }
 {

@@ -1,7 +1,7 @@
-// The pairs of a request.
+//! The pairs of a request.
 ghost use Rattle.std.specs.Prelude.{◌≡◌, true, Some};
 ghost use Rattle.std.specs.Option.{option_map};
-ghost use Rattle.tlcp.specs.Said.{on_ok};
+ghost use Rattle.std.specs.Result.{result_map_both};
 ghost use Rattle.requests.specs.Read.{pair_in, pairs_in, word_text};
 ghost use Rattle.tlcp.specs.Dividing.{divided_by};
 ghost use Rattle.requests.specs.Requests.{no_pairs, pair_of, read_pair, read_pairs, text_of, is_given, lacks, unfit_of, unfit, parameters};
@@ -53,7 +53,7 @@ impl Pairs {
 
     // Reads a pair.
     pub(crate) fn add(&mut self, name: Name, pair: Part<'_>) -> Result<(), Refusal>
-        ensures { on_ok (λ _. pairs_in self.new) result ≡ read_pair name pair.entry.at pair.entry.bytes.now (pairs_in self.old) }
+        ensures { result_map_both (λ _. pairs_in self.new) (λ e. e) result ≡ read_pair name pair.entry.at pair.entry.bytes.now (pairs_in self.old) }
     {
         let (word, value) = pair.cut(b'=');
         let value = value.ok_or(Fault::Shape.at(pair.at))?;
@@ -115,7 +115,7 @@ impl Pairs {
 
 // Reads the pairs of a request's body.
 pub(crate) fn read_pairs(body: Part<'_>, name: Name) -> Result<Pairs, Refusal>
-    ensures { on_ok pairs_in result ≡ read_pairs name body.entry.at (divided_by 38 body.entry.bytes.now) no_pairs }
+    ensures { result_map_both pairs_in (λ e. e) result ≡ read_pairs name body.entry.at (divided_by 38 body.entry.bytes.now) no_pairs }
 {
     let mut pairs = Pairs::NONE;
     let mut left = Some(body);

@@ -1,8 +1,8 @@
-// Requests.
+//! Requests.
 ghost use Rattle.std.specs.Prelude.{◌≡◌, ◌≤◌, length, true, if◌then◌else◌, Err, MatchOption};
 ghost use Rattle.tlcp.specs.Lines.{and_then};
-ghost use Rattle.tlcp.specs.Lists.{refusal};
-ghost use Rattle.tlcp.specs.Said.{on_ok};
+ghost use Rattle.row.specs.Faults.{refusal};
+ghost use Rattle.std.specs.Result.{result_map_both};
 ghost use Rattle.row.specs.declared.fault.Fault.TheVariants.{Parts};
 ghost use Rattle.requests.specs.Answers.{asked, request_in};
 ghost use Rattle.requests.specs.Asked.{ReadsAsked};
@@ -18,13 +18,13 @@ use crate::word::Word;
 use row::{Fault, Refusal};
 use tlcp::{Placed, find_end};
 
-// The bytes of a request.
+/// The bytes of a request.
 pub const REQUEST_LIMIT: usize = 2048;
 
 // A part of a request.
 pub(crate) type Part<'a> = Placed<'a, REQUEST_LIMIT>;
 
-// What a request asks for.
+/// What a request asks for.
 #[derive(Clone, Copy)]
 pub enum Request {
     Create {
@@ -78,7 +78,7 @@ impl Pairs {
 
     // What the pairs ask for in this form, if they are just what it takes.
     fn read_form(&self, form: Form, end: usize, session: u32) -> Result<Request, Refusal>
-        ensures { on_ok request_in result ≡ read_form session end (pairs_in self.now) form }
+        ensures { result_map_both request_in (λ e. e) result ≡ read_form session end (pairs_in self.now) form }
     {
         let whole = self.whole(form).ok_or(Fault::Parts.at(end))?;
         if let Some(at) = self.unfit(form.takes()) {
@@ -89,13 +89,13 @@ impl Pairs {
 
     // What the pairs ask for under this name.
     fn read_named(&self, name: Name, end: usize, session: u32) -> Result<Request, Refusal>
-        ensures { on_ok request_in result ≡ read_named session end name (pairs_in self.now) }
+        ensures { result_map_both request_in (λ e. e) result ≡ read_named session end name (pairs_in self.now) }
     {
         self.read_form(self.form(name, end)?, end, session)
     }
 }
 
-// Reads a request for the session with this number.
+/// Reads a request for the session with this number.
 pub fn read_request(text: &[u8], session: u32) -> Result<Request, Refusal>
     ensures answer { asked result ≡ read_request session text.now }
     ensures grammar { ReadsAsked }

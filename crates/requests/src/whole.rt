@@ -1,8 +1,8 @@
-// The pairs of a request that has all that its form needs.
+//! The pairs of a request that has all that its form needs.
 ghost use Rattle.std.specs.Prelude.{◌≡◌, false, None};
 ghost use Rattle.tlcp.specs.Limits.{id_limit};
 ghost use Rattle.tlcp.specs.Numbers.{number_of};
-ghost use Rattle.tlcp.specs.Said.{on_ok};
+ghost use Rattle.std.specs.Result.{result_map_both};
 ghost use Rattle.requests.specs.Answers.{request_in};
 ghost use Rattle.requests.specs.Names.{needs};
 ghost use Rattle.requests.specs.Read.{pairs_in};
@@ -47,7 +47,7 @@ impl Whole<'_> {
 
     // What the pairs ask for in the form, if it takes their values.
     pub(crate) fn request(&self, session: u32) -> Result<Request, Refusal>
-        ensures { on_ok request_in result ≡ fitting_or session self.now.form (pairs_in self.now.pairs.now) None }
+        ensures { result_map_both request_in (λ e. e) result ≡ fitting_or session self.now.form (pairs_in self.now.pairs.now) None }
     {
         self.check(session)?;
         let pairs = self.pairs;

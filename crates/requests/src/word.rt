@@ -1,6 +1,6 @@
-// The value of a parameter.
+//! The value of a parameter.
 ghost use Rattle.std.specs.Prelude.{◌≡◌};
-ghost use Rattle.tlcp.specs.Said.{on_ok};
+ghost use Rattle.std.specs.Result.{result_map_both};
 ghost use Rattle.requests.specs.Read.{word_text};
 ghost use Rattle.requests.specs.Values.{read_value};
 
@@ -8,14 +8,14 @@ use crate::request::Part;
 use row::{Fault, Refusal};
 use tlcp::{Bounded, Class, all_of};
 
-// The bytes of a value, decoded.
+/// The bytes of a value, decoded.
 pub const VALUE_LIMIT: usize = 64;
 
-// A value, decoded.
+/// A value, decoded.
 pub type Word = Bounded<VALUE_LIMIT>;
 
 pub(crate) fn read_value(raw: Part<'_>) -> Result<Word, Refusal>
-    ensures { on_ok word_text result ≡ read_value raw.entry.at raw.entry.bytes.now }
+    ensures { result_map_both word_text (λ e. e) result ≡ read_value raw.entry.at raw.entry.bytes.now }
 {
     let word = Word::decoded(raw.bytes).map_err(|refusal| refusal.moved_by(raw.at))?;
     if !all_of(raw.bytes, Class::Plain) {

@@ -1,5 +1,5 @@
 -- The number of each refusal, and how a refusal is printed.
-use Rattle.std.specs.Prelude.{ℕ, ◌+◌, ◌-◌, ◌^◌, List, ◌∷◌, ◌++◌, decimal, min}
+use Rattle.std.specs.Prelude.{ℕ, ◌+◌, ◌-◌, ◌^◌, List, ◌∷◌, ◌++◌, Ok, Err, Result, decimal, min}
 use Rattle.row.specs.declared.fault.Fault.{Fault}
 use Rattle.row.specs.declared.fault.Refusal.{Refusal}
 use Rattle.row.specs.declared.fault.Fault.TheVariants.{Memory, Shape, Escape, Number, Unknown, Parts, Cover, Value, State, Absent, Order, Subscribed, Full, Wire, Nothing, Length}
@@ -22,14 +22,27 @@ number_of Wire = 14
 number_of Nothing = 15
 number_of Length = 16
 
--- the refusal for a fault that has no place
-abbrev pub refusal : Fault → Refusal
-refusal f = record { fault = f; place = 0 }
+-- a fault at a place of a text, or at 0 where it has no place there
+abbrev pub refusal : Fault → ℕ → Refusal
+refusal f at = record { fault = f; place = at }
+
+-- an answer by its numbers: what was accepted, or a refusal's number and place
+pub data Answer (X : Type 0) : Type 0 where
+  accepted : X → Answer X
+  refused : ℕ → ℕ → Answer X
+
+abbrev pub by_numbers : {X : Type 0} → Result X Refusal → Answer X
+by_numbers (Ok x) = accepted x
+by_numbers (Err r) = refused (number_of r.fault) r.place
 
 -- the fault's number, a space and the place
 abbrev pub printed : Refusal → List ℕ
 printed r = decimal (number_of r.fault) ++ 32 ∷ decimal r.place
 
--- the refusal of a part that begins at a place of a text, as one of the text; places count up to what 64 bits hold
+-- the refusal of a part that begins at a place of a text, as one of the text
 abbrev pub moved : ℕ → Refusal → Refusal
-moved start r = record { fault = r.fault; place = min (start + r.place) (2 ^ 64 - 1) }
+moved start r = refusal r.fault (start + r.place)
+
+-- the same refusal where places count up to what 64 bits hold
+abbrev pub saturated : Refusal → Refusal
+saturated r = refusal r.fault (min r.place (2 ^ 64 - 1))

@@ -10,4 +10,4 @@ is_tap n = nat_le 1 n && nat_le n tap_limit
 
 -- a number, if it is a tap's
 abbrev pub tap_numbered : ℕ → Result ℕ Refusal
-tap_numbered n = cond (is_tap n) (Ok n) (Err (refusal Absent))
+tap_numbered n = cond (is_tap n) (Ok n) (Err (refusal Absent 0))

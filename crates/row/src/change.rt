@@ -1,6 +1,6 @@
-// Cells and changes as memory holds them.
+//! Cells and changes as memory holds them.
 ghost use Rattle.std.specs.Prelude.{◌≡◌, true, map, length, replicate, if◌then◌else◌};
-ghost use Rattle.row.specs.Records.{canonical, cell_of, change_of, held, null_cell, is_same, takes, wholly, later, rows_fit, answer_if};
+ghost use Rattle.row.specs.Records.{canonical, canonical_cell, cell_of, change_of, change_record, changed_cells, joined_changes, null_cell, is_same, takes, whole_changes, wholly, later, rows_fit, answer_if};
 ghost use Rattle.row.specs.Rows.{all_same, null, same, becomes, over, changed, join};
 
 use crate::fault::Refusal;
@@ -8,7 +8,7 @@ use crate::value::Value;
 
 pub const FIELD_LIMIT: usize = 12;
 
-// What a change does to its cell.
+/// What a change does to its cell.
 #[derive(Clone, Copy, PartialEq, Debug)]
 pub enum Mark {
     Same,
@@ -16,84 +16,84 @@ pub enum Mark {
     Value,
 }
 
-// A change of one field. Where it is same or null, `raw` is the kind's rest record.
-// kept: in lent memory each place holds a record by the project's rule, which an enum's case without one could not promise
+/// A change of one field. Where it is same or null, `raw` is the kind's rest record.
+// Lent memory can hold any bytes, so a mark stands beside the record and not around it: each place, with a value or without,
+// has a record whose bytes are known.
 #[derive(Clone, Copy)]
 pub struct Change<R> {
+    /// What the change does.
     pub mark: Mark,
+    /// The value's record.
     pub raw: R,
 }
 
-// A field's state. Where it is null, `raw` is the kind's rest record.
-// kept: a record beside the flag also where it is null, as in a change, by the project's rule
+/// A field's state. Where it is null, `raw` is the kind's rest record.
 #[derive(Clone, Copy)]
 pub struct Cell<R> {
+    /// Whether the field holds no value.
     pub null: bool,
+    /// The value's record.
     pub raw: R,
-}
-
-impl<R: Copy> Cell<R> {
-    // The cell after a change.
-    pub fn changed_by(self, by: Change<R>) -> Cell<R>
-        ensures { result ≡ takes self by }
-    {
-        match by.mark {
-            Mark::Same => self,
-            Mark::Null => Cell {
-                null: true,
-                raw: by.raw,
-            },
-            Mark::Value => Cell {
-                null: false,
-                raw: by.raw,
-            },
-        }
-    }
-}
-
-// The change that gives any cell this one's state.
-impl<R: Copy> From<Cell<R>> for Change<R> {
-    ghost from_gives = { λ cell change. change ≡ wholly cell };
-
-    fn from(cell: Cell<R>) -> Change<R> {
-        let mark = if cell.null { Mark::Null } else { Mark::Value };
-        Change {
-            mark,
-            raw: cell.raw,
-        }
-    }
-}
-
-impl<R: Copy> Change<R> {
-    pub fn is_same(&self) -> bool
-        ensures { result ≡ is_same self.now.mark }
-    {
-        self.mark == Mark::Same
-    }
-
-    // The change that stands for this one and then another.
-    pub fn then(self, next: Change<R>) -> Change<R>
-        ensures { result ≡ later self next }
-    {
-        match next.mark {
-            Mark::Same => self,
-            Mark::Null | Mark::Value => next,
-        }
-    }
 }
 
 impl<R: Value> Cell<R> {
+    /// The cell that is null.
     pub fn null() -> Cell<R>
         ensures { result ≡ null_cell R.kind }
     {
         let raw = R::rest();
         Cell { null: true, raw }
     }
+
+    /// The cell by the record that memory holds for its meaning: the rest record where it is null, the rest value where its
+    /// record is not sound.
+    pub fn canonical(self) -> Cell<R>
+        ensures record { result ≡ canonical_cell R.kind self }
+        ensures means { cell_of R.kind result ≡ cell_of R.kind self }
+    {
+        if self.null {
+            return Cell::null();
+        }
+        Cell {
+            null: false,
+            raw: self.raw.canonical(),
+        }
+    }
+
+    /// The cell after a change, by the record of its meaning.
+    pub fn changed_by(self, by: Change<R>) -> Cell<R>
+        ensures { result ≡ takes R.kind self by }
+    {
+        match by.mark {
+            Mark::Same => self.canonical(),
+            Mark::Null => Cell::null(),
+            Mark::Value => Cell {
+                null: false,
+                raw: by.raw.canonical(),
+            },
+        }
+    }
+}
+
+/// The change that gives any cell this one's state, by the record of its meaning.
+impl<R: Value> From<Cell<R>> for Change<R> {
+    ghost from_gives = { λ cell change. change ≡ wholly R.kind cell };
+
+    fn from(cell: Cell<R>) -> Change<R> {
+        if cell.null {
+            return Change::null();
+        }
+        Change {
+            mark: Mark::Value,
+            raw: cell.raw.canonical(),
+        }
+    }
 }
 
 impl<R: Value> Change<R> {
+    /// The change that leaves its cell as it is.
     pub fn same() -> Change<R>
-        ensures { result ≡ held R.kind same }
+        ensures { result ≡ change_record R.kind same }
     {
         Change {
             mark: Mark::Same,
@@ -101,8 +101,9 @@ impl<R: Value> Change<R> {
         }
     }
 
+    /// The change that makes its cell null.
     pub fn null() -> Change<R>
-        ensures { result ≡ held R.kind (becomes null) }
+        ensures { result ≡ change_record R.kind (becomes null) }
     {
         Change {
             mark: Mark::Null,
@@ -110,7 +111,15 @@ impl<R: Value> Change<R> {
         }
     }
 
-    // The change by the record that memory holds for its meaning.
+    /// Whether it leaves its cell as it is.
+    pub fn is_same(&self) -> bool
+        ensures { result ≡ is_same self.now.mark }
+    {
+        self.mark == Mark::Same
+    }
+
+    /// The change by the record that memory holds for its meaning: the rest record where it is same or null, the rest value
+    /// where its record is not sound.
     pub fn canonical(self) -> Change<R>
         ensures record { result ≡ canonical R.kind self }
         ensures means { change_of R.kind result ≡ change_of R.kind self }
@@ -124,6 +133,16 @@ impl<R: Value> Change<R> {
             },
         }
     }
+
+    /// The change that stands for this one and then another, by the record of its meaning.
+    pub fn then(self, next: Change<R>) -> Change<R>
+        ensures { result ≡ later R.kind self next }
+    {
+        match next.mark {
+            Mark::Same => self.canonical(),
+            Mark::Null | Mark::Value => next.canonical(),
+        }
+    }
 }
 
 // What becomes of a place by what stands in the same place of another list.
@@ -134,27 +153,24 @@ trait Step<By>: Copy {
         ensures { self.new ≡ after self.old by.now };
 }
 
-impl<R: Copy> Step<Change<R>> for Cell<R> {
-    ghost after = { takes };
+impl<R: Value> Step<Change<R>> for Cell<R> {
+    ghost after = { takes R.kind };
 
-    // most changes are same, and need no copy
     fn step(&mut self, by: &Change<R>) {
-        if !by.is_same() {
-            *self = self.changed_by(*by);
-        }
+        *self = self.changed_by(*by);
     }
 }
 
-impl<R: Copy> Step<Change<R>> for Change<R> {
-    ghost after = { later };
+impl<R: Value> Step<Change<R>> for Change<R> {
+    ghost after = { later R.kind };
 
     fn step(&mut self, by: &Change<R>) {
         *self = self.then(*by);
     }
 }
 
-impl<R: Copy> Step<Cell<R>> for Change<R> {
-    ghost after = { λ _ c. wholly c };
+impl<R: Value> Step<Cell<R>> for Change<R> {
+    ghost after = { λ _ c. wholly R.kind c };
 
     fn step(&mut self, by: &Cell<R>) {
         *self = (*by).into();
@@ -185,21 +201,21 @@ fn fill<X: Copy>(places: &mut [X], x: X)
     }
 }
 
-// Makes every change same.
+/// Makes every change same.
 pub fn blank<R: Value>(delta: &mut [Change<R>])
-    ensures { delta.new ≡ replicate (length delta.old) (held R.kind same) }
+    ensures { delta.new ≡ replicate (length delta.old) (change_record R.kind same) }
 {
     fill(delta, Change::same());
 }
 
-// Makes every cell null.
+/// Makes every cell null.
 pub fn nullify<R: Value>(row: &mut [Cell<R>])
     ensures { row.new ≡ replicate (length row.old) (null_cell R.kind) }
 {
     fill(row, Cell::null());
 }
 
-// Makes each change hold the record of its meaning.
+/// Makes each change hold the record of its meaning.
 pub fn canonicalize<R: Value>(delta: &mut [Change<R>])
     ensures changes { delta.new ≡ map (canonical R.kind) delta.old }
     ensures means { map (change_of R.kind) delta.new ≡ map (change_of R.kind) delta.old }
@@ -209,7 +225,7 @@ pub fn canonicalize<R: Value>(delta: &mut [Change<R>])
     }
 }
 
-// Whether a delta leaves each cell as it is.
+/// Whether a delta leaves each cell as it is.
 pub fn all_same<R: Value>(delta: &[Change<R>]) -> bool
     ensures { result ≡ all_same (map (change_of R.kind) delta.now) }
 {
@@ -222,28 +238,31 @@ pub fn all_same<R: Value>(delta: &[Change<R>]) -> bool
     true
 }
 
-// Changes a row by a delta.
+/// Changes a row by a delta, each of twelve places. Every cell then holds the record of its meaning, whatever record stood
+/// there. Refused with 1, and nothing touched, where either has another length.
 pub fn change_row<R: Value>(row: &mut [Cell<R>], delta: &[Change<R>]) -> Result<(), Refusal>
     ensures answer { result ≡ answer_if (rows_fit row.old delta.now) }
-    ensures cells { row.new ≡ (if rows_fit row.old delta.now then over takes row.old delta.now else row.old) }
+    ensures cells { row.new ≡ (if rows_fit row.old delta.now then changed_cells R.kind row.old delta.now else row.old) }
     ensures means { map (cell_of R.kind) row.new ≡ (if rows_fit row.old delta.now then changed (map (cell_of R.kind) row.old) (map (change_of R.kind) delta.now) else map (cell_of R.kind) row.old) }
 {
     step_all(row, delta)
 }
 
-// Joins a later delta to an earlier one, in place of the earlier.
+/// Joins a later delta to an earlier one, in place of the earlier, each of twelve changes. Every change of it then holds the
+/// record of its meaning. Refused with 1, and nothing touched, where either has another length.
 pub fn join_delta<R: Value>(earlier: &mut [Change<R>], next: &[Change<R>]) -> Result<(), Refusal>
     ensures answer { result ≡ answer_if (rows_fit earlier.old next.now) }
-    ensures changes { earlier.new ≡ (if rows_fit earlier.old next.now then over later earlier.old next.now else earlier.old) }
+    ensures changes { earlier.new ≡ (if rows_fit earlier.old next.now then joined_changes R.kind earlier.old next.now else earlier.old) }
     ensures means { map (change_of R.kind) earlier.new ≡ (if rows_fit earlier.old next.now then join (map (change_of R.kind) earlier.old) (map (change_of R.kind) next.now) else map (change_of R.kind) earlier.old) }
 {
     step_all(earlier, next)
 }
 
-// Makes a delta of a whole row: every field null or a value.
+/// Makes a delta of a whole row, each of twelve places: every change null or a value, by the record of its meaning. Refused
+/// with 1, and nothing touched, where either has another length.
 pub fn whole_row<R: Value>(row: &[Cell<R>], delta: &mut [Change<R>]) -> Result<(), Refusal>
     ensures answer { result ≡ answer_if (rows_fit row.now delta.old) }
-    ensures changes { delta.new ≡ (if rows_fit row.now delta.old then map wholly row.now else delta.old) }
+    ensures changes { delta.new ≡ (if rows_fit row.now delta.old then whole_changes R.kind row.now else delta.old) }
     ensures means { rows_fit row.now delta.old ≡ true → map (change_of R.kind) delta.new ≡ map becomes (map (cell_of R.kind) row.now) }
 {
     step_all(delta, row)

@@ -1,4 +1,4 @@
-// Rows of fields: cells, changes and their joining, taps, the kinds of value, and the numbered refusals.
+//! Rows of fields: cells, changes and their joining, taps, the kinds of value, and the numbered refusals.
 #![tactic(auto)]
 
 mod change;

@@ -1,4 +1,4 @@
-// Logic values: 1 to 32 bits, each `0`, `1`, `x` (unknown) or `z` (floating).
+//! Logic values: 1 to 32 bits, each `0`, `1`, `x` (unknown) or `z` (floating).
 ghost use Rattle.std.specs.Prelude.{◌≡◌, ◌<◌, true, length, if◌then◌else◌, Some, None};
 ghost use Rattle.std.specs.Option.{option_map};
 ghost use Rattle.row.specs.Kinds.{rest_record};
@@ -10,7 +10,7 @@ ghost use Rattle.row.specs.LogicsLemmas.{logic-lawful};
 use crate::text::TEXT_LIMIT;
 use crate::value::Value;
 
-// A logic value as memory holds it. Nothing is known of it.
+/// A logic value as memory holds it. Nothing is known of it.
 // kept: words with a width beside are the plain record of lent memory, by the project's rule
 #[derive(Clone, Copy, PartialEq, Debug)]
 pub struct LogicRecord {
@@ -19,8 +19,8 @@ pub struct LogicRecord {
     pub width: u8,
 }
 
-// A logic value: a record whose width is within its limits and whose words have no bit at or above it. Of a
-// bit the words have (0, 0) for `0`, (1, 0) for `1`, (0, 1) for `z` and (1, 1) for `x`.
+/// A logic value: a record whose width is within its limits and whose words have no bit at or above it. Of a
+/// bit the words have (0, 0) for `0`, (1, 0) for `1`, (0, 1) for `z` and (1, 1) for `x`.
 #[derive(Clone, Copy)]
 pub struct Logic {
     held: LogicRecord,
@@ -81,7 +81,7 @@ impl Logic {
         Logic { held }
     }
 
-    // The value with this text, if there is one.
+    /// The value with this text, if there is one.
     // kept: an Option says all there is; TryFrom would want an error that says no more
     pub fn new(text: &[u8]) -> Option<Logic>
         ensures { option_map (λ l. l.held) result ≡ (if logic_allowed text.now then Some (logic_record text.now) else None) }
@@ -104,7 +104,7 @@ impl Logic {
         Some(Logic { held })
     }
 
-    // The value that a record holds, if it is sound.
+    /// The value that a record holds, if it is sound.
     // kept: an Option, as of `new`
     pub fn check(held: LogicRecord) -> Option<Logic>
         ensures { option_map (λ l. l.held) result ≡ (if logic_sound held then Some held else None) }

@@ -1,4 +1,4 @@
-// A tap: an observed point, known by its number.
+//! A tap: an observed point, known by its number.
 ghost use Rattle.std.specs.Prelude.{◌≡◌, ◌-◌, true};
 ghost use Rattle.std.specs.Result.{result_map_both};
 ghost use Rattle.row.specs.Taps.{is_tap, tap_numbered};
@@ -8,10 +8,10 @@ use crate::fault::{Fault, Refusal};
 
 pub const TAP_LIMIT: usize = 8;
 
-// A place for each field of each tap.
+/// A place for each field of each tap.
 pub const CELL_LIMIT: usize = TAP_LIMIT * FIELD_LIMIT;
 
-// An observed point, numbered from 1 to `TAP_LIMIT`.
+/// An observed point, numbered from 1 to `TAP_LIMIT`.
 #[derive(Clone, Copy, PartialEq, Debug)]
 pub struct Tap {
     number: usize,
@@ -38,7 +38,7 @@ impl Tap {
         self.number
     }
 
-    // The tap's place among all taps, from 0.
+    /// The tap's place among all taps, from 0.
     pub fn index(self) -> usize
         ensures { result ≡ self.number - 1 }
     {

@@ -1,4 +1,4 @@
-// Text values: 0 to 32 bytes.
+//! Text values: 0 to 32 bytes.
 ghost use Rattle.std.specs.Prelude.{◌≡◌, true, length, if◌then◌else◌, Some, None};
 ghost use Rattle.std.specs.Option.{option_map};
 ghost use Rattle.row.specs.Kinds.{rest_record};
@@ -7,7 +7,7 @@ ghost use Rattle.row.specs.Texts.{every, is_zero, padded, text_allowed, text_kin
 
 pub const TEXT_LIMIT: usize = 32;
 
-// A text as memory holds it. Nothing is known of it.
+/// A text as memory holds it. Nothing is known of it.
 // kept: bytes with a length beside are the plain record of lent memory, by the project's rule
 #[derive(Clone, Copy, PartialEq, Debug)]
 pub struct TextRecord {
@@ -15,7 +15,7 @@ pub struct TextRecord {
     pub len: u8,
 }
 
-// A text value: a record whose length is within the limit and whose bytes behind it are zero.
+/// A text value: a record whose length is within the limit and whose bytes behind it are zero.
 #[derive(Clone, Copy)]
 pub struct Text {
     held: TextRecord,
@@ -48,7 +48,7 @@ impl Text {
         Text { held }
     }
 
-    // The text with these bytes, if they are not too many.
+    /// The text with these bytes, if they are not too many.
     // kept: an Option says all there is; TryFrom would want an error that says no more
     pub fn new(text: &[u8]) -> Option<Text>
         ensures { option_map (λ t. t.held) result ≡ (if text_allowed text.now then Some (text_record text.now) else None) }
@@ -65,7 +65,7 @@ impl Text {
         Some(Text { held })
     }
 
-    // The value that a record holds, if it is sound.
+    /// The value that a record holds, if it is sound.
     // kept: an Option, as of `new`
     pub fn check(held: TextRecord) -> Option<Text>
         ensures { option_map (λ t. t.held) result ≡ (if text_sound held then Some held else None) }

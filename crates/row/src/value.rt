@@ -1,4 +1,4 @@
-// A kind of value, by the plain records that stand for its values in memory.
+//! A kind of value, by the plain records that stand for its values in memory.
 ghost use Rattle.std.specs.Prelude.{◌≡◌, ℕ, length, if◌then◌else◌, Some, None};
 ghost use Rattle.row.specs.Kinds.{Kind, Lawful, Represents, rest_record};
 ghost use Rattle.row.specs.Limits.{text_limit};
@@ -11,20 +11,20 @@ use crate::text::{TEXT_LIMIT, Text, TextRecord};
 pub trait Value: Copy {
     ghost kind: { Kind Self };
 
-    // The record of the rest value.
+    /// The record of the rest value.
     fn rest() -> Self
         ensures { result ≡ rest_record kind };
 
-    // The record of a text, if the kind has a value with that text.
+    /// The record of a text, if the kind has a value with that text.
     fn read(text: &[u8]) -> Option<Self>
         ensures { result ≡ (if kind.allowed text.now then Some (kind.raw text.now) else None) };
 
-    // Writes the text that the record means, with zeros behind it, and answers its length.
+    /// Writes the text that the record means, with zeros behind it, and answers its length.
     fn write(&self, out: &mut [u8; TEXT_LIMIT]) -> usize
         ensures length { result ≡ length (kind.text self.now) }
         ensures bytes { out.new ≡ padded text_limit (kind.text self.now) };
 
-    // The record of the value that this one means.
+    /// The record of the value that this one means.
     fn canonical(&self) -> Self
         ensures { result ≡ kind.raw (kind.text self.now) };
 
@@ -54,7 +54,7 @@ impl Value for TextRecord {
     }
 }
 
-// How the records of each kind stand for its values. Nothing to run: the contract says it.
+/// How the records of each kind stand for its values. Nothing to run: the contract says it.
 pub fn records_stand_for_values()
     ensures text { Represents text_kind text_sound text_whole }
     ensures logic { Represents logic_kind logic_sound logic_sound }

@@ -1,5 +1,5 @@
-// Where lines end. A block is searched part by part, and within a part with no branch on what a byte is: a wrong
-// guess at where a line ends costs more than the rest of the part.
+//! Where lines end. A block is searched part by part, and within a part with no branch on what a byte is: a wrong
+//! guess at where a line ends costs more than the rest of the part.
 ghost use Rattle.std.specs.Prelude.{◌≡◌, ◌+◌, ◌≤◌, length, position, MatchOption, ◌==◌};
 ghost use Rattle.std.specs.List.{list_any};
 ghost use Rattle.std.specs.Option.{option_map};
@@ -54,7 +54,7 @@ fn find_end(s: &[u8]) -> Option<usize>
     Some(s.len() - rest.len() + end)
 }
 
-// What stands before the first end, and what stands behind it, if there is one.
+/// What stands before the first end, and what stands behind it, if there is one.
 #[inline(always)]
 pub fn split_line(s: &[u8]) -> (&[u8], Option<&[u8]>)
     ensures front { result.0.now ≡ before line_feed s.now }

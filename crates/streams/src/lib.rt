@@ -1,4 +1,4 @@
-// Lines cut from blocks of input, and heard one after another.
+//! Lines cut from blocks of input, and heard one after another.
 #![tactic(auto)]
 
 mod ends;

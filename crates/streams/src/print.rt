@@ -1,4 +1,4 @@
-// Numbers and refusals, as they are printed.
+//! Numbers and refusals, as they are printed.
 ghost use Rattle.std.specs.Prelude.{◌≡◌, ◌++◌, codes, decimal, OnOk};
 ghost use Rattle.row.specs.Faults.{printed};
 
@@ -16,7 +16,7 @@ pub(crate) fn push_number(out: &mut Vec<u8>, n: u64) -> Result<(), AllocError>
     Ok(())
 }
 
-// Appends a refusal as the answer to a line.
+/// Appends a refusal as the answer to a line.
 pub fn push_refusal(out: &mut Vec<u8>, refusal: Refusal) -> Result<(), AllocError>
     ensures { OnOk result (out.new.items ≡ out.old.items ++ (codes " no " ++ printed refusal)) }
 {

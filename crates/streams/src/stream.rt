@@ -1,4 +1,4 @@
-// The lines of a stream, cut from its blocks and heard one after another.
+//! The lines of a stream, cut from its blocks and heard one after another.
 ghost use Rattle.std.specs.Prelude.{◌≡◌, [], OnOk};
 ghost use Rattle.streams.specs.Feeding.{fresh, keep, hear_line, ended, fed, last_line, finished, CutAnywhere, PrintsAll};
 ghost use Rattle.streams.specs.Streams.{Fed, HeardLine, state_of, state_with};
@@ -29,7 +29,7 @@ impl<H: Hear> Counted<H> {
     }
 }
 
-// What hears the lines, and the bytes of a line that has not ended.
+/// What hears the lines, and the bytes of a line that has not ended.
 #[derive(Drop)]
 pub struct Stream<H> {
     counted: Counted<H>,
@@ -37,7 +37,7 @@ pub struct Stream<H> {
 }
 
 impl<H: Hear> Stream<H> {
-    // A stream before its first byte.
+    /// A stream before its first byte.
     pub fn new(heap: Global, listener: H) -> Stream<H>
         ensures state { state_of result ≡ fresh listener }
         ensures blocks { CutAnywhere H.LIMIT H.hearing }
@@ -62,7 +62,7 @@ impl<H: Hear> Stream<H> {
         Ok(())
     }
 
-    // Takes some bytes of the input, and appends the answers to the lines that end in them.
+    /// Takes some bytes of the input, and appends the answers to the lines that end in them.
     pub fn feed(&mut self, block: &[u8], out: &mut Vec<u8>) -> Result<(), AllocError>
         ensures { OnOk result (Fed (fed H.LIMIT H.hearing (state_of self.old) block.now) self.new out.old.items out.new.items) }
     {
@@ -89,7 +89,7 @@ impl<H: Hear> Stream<H> {
         Ok(())
     }
 
-    // The input has ended: answers a last line that has no end, and appends what is said at the end.
+    /// The input has ended: answers a last line that has no end, and appends what is said at the end.
     pub fn finish(&mut self, out: &mut Vec<u8>) -> Result<(), AllocError>
         ensures { OnOk result (Fed (finished H.LIMIT H.hearing (state_of self.old)) self.new out.old.items out.new.items) }
     {

@@ -4,12 +4,13 @@ use Rattle.std.proofs.lemmas.List.{append-nil, set-get_or, length-append, length
 use Rattle.std.proofs.lemmas.Bool.{cond-true, cond-false, ne_eqb, le-leb, lt-leb}
 use Rattle.row.specs.Kinds.{Kind}
 use Rattle.row.specs.Limits.{field_limit}
-use Rattle.row.specs.Records.{held}
+use Rattle.row.specs.Records.{change_record}
 use Rattle.row.specs.Rows.{Change, same}
 use Rattle.row.specs.declared.change.Change as memory
 use Rattle.row.specs.declared.fault.Refusal.{Refusal}
 use Rattle.tlcp.specs.Held.{filled, size, size_or, slot_after}
-use Rattle.tlcp.specs.Lists.{Meant, sames, one, values, read_value, read_values, take_meant, ahead, shifted, uncovered}
+use Rattle.row.specs.Faults.{moved}
+use Rattle.tlcp.specs.Lists.{Meant, sames, one, values, read_value, read_values, take_meant, ahead, uncovered}
 use Rattle.tlcp.proofs.Reading.{refused}
 use Rattle.tlcp.proofs.Spelling.{changes_of}
 
@@ -28,7 +29,7 @@ module _ (allowed : List ℕ → Bool) (at left : ℕ) (v : List ℕ) (vs : List
   some_left : read_values allowed at left (v ∷ vs) ≡ take_meant left at others (read_value allowed v)
   some_left = cond-false (eqb left 0) (Err uncovered) _ (ne_eqb left 0 (λ z. omega arith))
 
-  pub value-refused : (r : Refusal) → read_value allowed v ≡ Err r → read_values allowed at left (v ∷ vs) ≡ Err (shifted at r)
+  pub value-refused : (r : Refusal) → read_value allowed v ≡ Err r → read_values allowed at left (v ∷ vs) ≡ Err (moved at r)
   value-refused r e = some_left ∙ ap (take_meant left at others) e
 
   pub value_taken : (m : Meant) → read_value allowed v ≡ Ok m → size m ≤ left → read_values allowed at left (v ∷ vs) ≡ ahead (changes_of m) (read_values allowed (at + length v + 1) (left - size m) vs)
@@ -48,21 +49,21 @@ size-err x (Ok m) e = refused e
 size-err x (Err y) e = cc
 
 -- the delta's places after a value that speaks of the fields behind d, the first of which had x
-pub slot-taken : {R : Type 0} (k : Kind R) (m : Meant) (d : List Change) (x : memory.Change R) → length d + size m ≤ field_limit → x ≡ get_or (map (held k) (filled d)) (length d) x → set (map (held k) (filled d)) (length d) (slot_after k (Ok m) x) ≡ map (held k) (filled (d ++ changes_of m))
+pub slot-taken : {R : Type 0} (k : Kind R) (m : Meant) (d : List Change) (x : memory.Change R) → length d + size m ≤ field_limit → x ≡ get_or (map (change_record k) (filled d)) (length d) x → set (map (change_record k) (filled d)) (length d) (slot_after k (Ok m) x) ≡ map (change_record k) (filled (d ++ changes_of m))
 slot-taken k (sames n) d x room read =
     let l = length-append d (replicate n same) ∙ ap (λ j. length d + j) (length-replicate n same) in
     let more : field_limit - length d ≡ n + (field_limit - length (d ++ replicate n same)) = omega arith in
-    ap (set (map (held k) (filled d)) (length d)) read
-    ∙ set-get_or (map (held k) (filled d)) (length d) x
-    ∙ ap (map (held k))
+    ap (set (map (change_record k) (filled d)) (length d)) read
+    ∙ set-get_or (map (change_record k) (filled d)) (length d) x
+    ∙ ap (map (change_record k))
     (ap (λ j. d ++ replicate j same) more
     ∙ ap (λ y. d ++ y) (sym (replicate-append-replicate n (field_limit - length (d ++ replicate n same)) same))
     ∙ sym (append_assoc d (replicate n same) _))
 slot-taken k (one c) d x room read =
     let l = length_push d c in
     let more : field_limit - length d ≡ suc (field_limit - length (d ++ c ∷ [])) = omega arith in
-    sym (map-set (held k) (filled d) (length d) c)
-    ∙ ap (map (held k))
+    sym (map-set (change_record k) (filled d) (length d) c)
+    ∙ ap (map (change_record k))
     (ap (λ j. set (d ++ replicate j same) (length d) c) more
     ∙ set_at d same (replicate (field_limit - length (d ++ c ∷ [])) same) c (length d) refl
     ∙ sym (append_assoc d (c ∷ []) _))
@@ -72,7 +73,7 @@ pub record Sofar {R : Type 0} (k : Kind R) (fields : ℕ) (list : List ℕ) (del
   pub changes : List Change
   pub count : covered ≡ length changes
   pub within : covered ≤ fields
-  pub holds : delta ≡ map (held k) (filled changes)
+  pub holds : delta ≡ map (change_record k) (filled changes)
   pub result : read_values k.allowed 0 fields (values list) ≡ ahead changes (read_values k.allowed at (fields - covered) vs)
 
 module _ {R : Type 0} (k : Kind R) (fields : ℕ) (list : List ℕ) (delta : List (memory.Change R)) (covered at : ℕ) where
@@ -94,7 +95,7 @@ module _ {R : Type 0} (k : Kind R) (fields : ℕ) (list : List ℕ) (delta : Lis
 
   -- the next value
   module _ (v : List ℕ) (vs : List (List ℕ)) (s : Sofar k fields list delta covered at (v ∷ vs)) (some : covered < fields) where
-    pub next-refused : (x : Refusal) → Err x ≡ size_or (read_value k.allowed v) → read_values k.allowed 0 fields (values list) ≡ Err (shifted at x)
+    pub next-refused : (x : Refusal) → Err x ≡ size_or (read_value k.allowed v) → read_values k.allowed 0 fields (values list) ≡ Err (moved at x)
     next-refused x e = s.result ∙ ap (ahead s.changes) (value-refused k.allowed at (fields - covered) v vs (omega arith) x (size-err x (read_value k.allowed v) e))
 
     module _ (n : ℕ) (e : Ok n ≡ size_or (read_value k.allowed v)) where
@@ -112,11 +113,11 @@ module _ {R : Type 0} (k : Kind R) (fields : ℕ) (list : List ℕ) (delta : Lis
           let short = length-changes m.0 in
           let count = s.count in
           let left : fields - covered - size m.0 ≡ fields - (covered + n) = omega arith in
-          let there : x ≡ get_or (map (held k) (filled s.changes)) (length s.changes) x = read ∙ (λ i. get_or (s.holds i) (count i) x) in
+          let there : x ≡ get_or (map (change_record k) (filled s.changes)) (length s.changes) x = read ∙ (λ i. get_or (s.holds i) (count i) x) in
           record {
             changes = s.changes ++ changes_of m.0;
             count = omega arith;
             within = omega arith;
-            holds = (λ i. set (s.holds i) (count i) (after i)) ∙ (λ i. set (map (held k) (filled s.changes)) (length s.changes) (slot_after k (m.1 i) x)) ∙ slot-taken k m.0 s.changes x (omega arith) there;
+            holds = (λ i. set (s.holds i) (count i) (after i)) ∙ (λ i. set (map (change_record k) (filled s.changes)) (length s.changes) (slot_after k (m.1 i) x)) ∙ slot-taken k m.0 s.changes x (omega arith) there;
             result = s.result ∙ ap (ahead s.changes) (value_taken k.allowed at (fields - covered) v vs (omega arith) m.0 m.1 (omega arith)) ∙ ap (λ j. ahead s.changes (ahead (changes_of m.0) (read_values k.allowed (at + length v + 1) j vs))) left ∙ sym (ahead-ahead s.changes (changes_of m.0) (read_values k.allowed (at + length v + 1) (fields - (covered + n)) vs));
           }

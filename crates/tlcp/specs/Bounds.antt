@@ -7,7 +7,8 @@ use Rattle.row.specs.declared.change.Change.{Change}
 use Rattle.row.specs.declared.fault.Fault.TheVariants.{Escape}
 use Rattle.row.specs.declared.fault.Refusal.{Refusal}
 use Rattle.tlcp.specs.Escapes.{decoded}
-use Rattle.tlcp.specs.Lists.{refusal, uncovered, written_list}
+use Rattle.row.specs.Faults.{refusal}
+use Rattle.tlcp.specs.Lists.{uncovered, written_list}
 use Rattle.tlcp.specs.Written.{changes_of, covers, no_room}
 use Rattle.tlcp.specs.declared.bounded.Bounded.{Bounded}
 

@@ -2,7 +2,7 @@
 use Rattle.std.specs.Prelude.{ℕ, suc, Bool, cond, ◌&&◌, List, [], ◌∷◌, length, find, Some, None, Ok, Err, Option, Result, ◌==◌, nat_le, nat_lt, slice_index}
 use Rattle.row.specs.declared.fault.Fault.TheVariants.{Parts}
 use Rattle.row.specs.declared.fault.Refusal.{Refusal}
-use Rattle.tlcp.specs.Lists.{refusal}
+use Rattle.row.specs.Faults.{refusal}
 use Rattle.tlcp.specs.Lines.{front, rest, same_bytes}
 pub use Rattle.tlcp.specs.Parts.{has, divided_by, each_behind, joined_by, NoneHas}
 use Rattle.tlcp.specs.Parts.{Piece}

@@ -4,7 +4,8 @@ use Rattle.row.specs.Rows.{Change, same, becomes, null, value, join}
 use Rattle.row.specs.Texts.{text_allowed}
 use Rattle.row.specs.Logics.{logic_allowed, logic_record}
 use Rattle.row.specs.declared.fault.Fault.TheVariants.{Number, Cover, Value}
-use Rattle.tlcp.specs.Lists.{read_list, written_list, text_value, refusal}
+use Rattle.row.specs.Faults.{refusal}
+use Rattle.tlcp.specs.Lists.{read_list, written_list, text_value}
 
 -- a field becomes this text
 abbrev pub to : List ℕ → Change

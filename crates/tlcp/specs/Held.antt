@@ -18,12 +18,12 @@ module _ {R : Type 0} (k : Kind R) where
   -- the change of the first field that a value speaks of, which was c
   abbrev pub slot_after : Result Meant Refusal → Change R → Change R
   slot_after (Ok (sames n)) c = c
-  slot_after (Ok (one d)) c = records.held k d
+  slot_after (Ok (one d)) c = records.change_record k d
   slot_after (Err r) c = c
 
   abbrev pub held_delta : Result (List rows.Change) Refusal → List (Change R)
-  held_delta (Ok d) = map (records.held k) (filled d)
-  held_delta (Err r) = map (records.held k) (filled [])
+  held_delta (Ok d) = map (records.change_record k) (filled d)
+  held_delta (Err r) = map (records.change_record k) (filled [])
 
 abbrev pub answer_of : Result (List rows.Change) Refusal → Result (Unit {0}) Refusal
 answer_of (Ok d) = Ok tt

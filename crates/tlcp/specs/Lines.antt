@@ -8,7 +8,7 @@ use Rattle.row.specs.declared.fault.Fault.TheVariants.{Escape, Number, Unknown, 
 use Rattle.row.specs.declared.fault.Refusal.{Refusal}
 use Rattle.tlcp.specs.Escapes.{decoded, Decodes}
 use Rattle.tlcp.specs.Limits.{line_limit, id_limit, count_limit}
-use Rattle.tlcp.specs.Lists.{refusal}
+use Rattle.row.specs.Faults.{refusal}
 use Rattle.tlcp.specs.Numbers.{number_of, code_of, CodeWithin}
 use Rattle.tlcp.specs.Parts.{before, behind, has, place_of, Piece}
 use Rattle.tlcp.specs.declared.tag.Tag.{Tag}

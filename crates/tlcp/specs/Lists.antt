@@ -3,19 +3,12 @@ use Rattle.std.specs.Prelude.{◌≡◌, ℕ, suc, ◌+◌, ◌-◌, ◌*◌, �
 use Rattle.std.specs.List.{AllByRecursion}
 use Rattle.row.specs.Limits.{field_limit, text_limit}
 use Rattle.row.specs.Rows.{Change, same, becomes, null, value}
-use Rattle.row.specs.declared.fault.Fault.{Fault}
+use Rattle.row.specs.Faults.{moved, refusal}
 use Rattle.row.specs.declared.fault.Fault.TheVariants.{Escape, Number, Cover, Value}
 use Rattle.row.specs.declared.fault.Refusal.{Refusal}
 use Rattle.tlcp.specs.Escapes.{decoded, Decodes, encode}
 use Rattle.tlcp.specs.Numbers.{number_of}
 use Rattle.tlcp.specs.Parts.{divided_by, each_behind, has, joined_by, NoneHas}
-
-abbrev pub refusal : Fault → ℕ → Refusal
-refusal f at = record { fault = f; place = at }
-
--- a refusal in a part that begins at n, seen from the whole
-abbrev pub shifted : ℕ → Refusal → Refusal
-shifted n r = refusal r.fault (n + r.place)
 
 -- the values of a list: what stands between its pipes
 abbrev pub values : List ℕ → List (List ℕ)
@@ -63,7 +56,7 @@ uncovered = refusal Cover 0
 
 -- how a value goes on: `left` fields were to be covered, and `rest n` says what the values behind it make of n fields
 abbrev pub take_meant : ℕ → ℕ → (ℕ → Result (List Change) Refusal) → Result Meant Refusal → Result (List Change) Refusal
-take_meant left at rest (Err r) = Err (shifted at r)
+take_meant left at rest (Err r) = Err (moved at r)
 take_meant left at rest (Ok (sames n)) = let more = ahead (replicate n same) (rest (left - n)) in cond (nat_le n left) more (Err uncovered)
 take_meant left at rest (Ok (one c)) = ahead (c ∷ []) (rest (left - 1))
 

@@ -1,6 +1,7 @@
 -- What the reader's answers say.
 use Rattle.std.specs.Prelude.{◌≡◌, ℕ, ℤ, List, [], ◌∷◌, Ok, Err, Option, Result}
 use Rattle.std.specs.Option.{option_map}
+use Rattle.std.specs.Result.{result_map_both}
 use Rattle.row.specs.declared.fault.Refusal.{Refusal}
 use Rattle.tlcp.specs.Lines.{Argument, numbered, coded, worded, listed, Message, arguments_of, message_of, piece, sorts}
 use Rattle.tlcp.specs.Limits.{line_limit}
@@ -18,11 +19,6 @@ Part = Placed line_limit
 
 abbrev pub piece_in : {limit : ℕ} → Placed limit → Piece
 piece_in p = piece p.bytes.now p.at
-
--- what an answer says, where f says it of what was accepted
-abbrev pub on_ok : {X Y : Type 0} → (X → Y) → Result X Refusal → Result Y Refusal
-on_ok f (Ok x) = Ok (f x)
-on_ok f (Err r) = Err r
 
 abbrev pub numbering : Valued ℕ → Argument
 numbering n = numbered (piece_in n.part) n.value
@@ -80,8 +76,8 @@ abbrev pub message_in : Piece → Notification → Message
 message_in name n = record { tag = tag_in n; name = name; args = arguments_in n }
 
 abbrev pub said : Result Line Refusal → Result Message Refusal
-said r = on_ok (λ l. message_in (piece_in l.tag) l.says) r
+said r = result_map_both (λ l. message_in (piece_in l.tag) l.says) (λ e. e) r
 
 -- r says what a line of `end` bytes with the tag t says, behind whose tag `tail` stands
 abbrev pub Tells : Tag → ℕ → Option Part → Result Notification Refusal → Type 0
-Tells t end tail r = (name : Piece) → on_ok (message_in name) r ≡ message_of t name (arguments_of (sorts t) end (option_map piece_in tail))
+Tells t end tail r = (name : Piece) → result_map_both (message_in name) (λ e. e) r ≡ message_of t name (arguments_of (sorts t) end (option_map piece_in tail))

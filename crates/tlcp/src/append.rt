@@ -1,9 +1,9 @@
-// Bytes appended up to a limit.
+//! Bytes appended up to a limit.
 ghost use Rattle.std.specs.Prelude.{◌≡◌, ◌<◌, ◌≤◌, [], length, IfErr, take, Some, None, if◌then◌else◌, nat_le, decimal};
 ghost use Rattle.std.specs.Option.{option_map};
 ghost use Rattle.tlcp.specs.Bytes.{in_class};
 ghost use Rattle.tlcp.specs.Escapes.{encoded_by};
-ghost use Rattle.tlcp.specs.Said.{on_ok};
+ghost use Rattle.std.specs.Result.{result_map_both};
 ghost use Rattle.tlcp.specs.Bounds.{decoded_within, extended, list_extended, list_room_answer, text_of, room_answer};
 
 use crate::bounded::Bounded;
@@ -24,7 +24,7 @@ impl<const N: usize> Bounded<N> {
         }
     }
 
-    // The first so many of some bytes, if there are so many.
+    /// The first so many of some bytes, if there are so many.
     pub fn of(bytes: [u8; N], len: usize) -> Option<Bounded<N>>
         ensures { option_map text_of result ≡ (if nat_le len N then Some (take len bytes.entry) else None) }
     {
@@ -36,9 +36,9 @@ impl<const N: usize> Bounded<N> {
         }
     }
 
-    // The bytes that a text with escapes stands for, if they are not too many. Refuses what `decode` refuses.
+    /// The bytes that a text with escapes stands for, if they are not too many. Refuses what `decode` refuses.
     pub fn decoded(text: &[u8]) -> Result<Option<Bounded<N>>, Refusal>
-        ensures answer { on_ok (option_map text_of) result ≡ decoded_within N text.now }
+        ensures answer { result_map_both (option_map text_of) (λ e. e) result ≡ decoded_within N text.now }
         ensures within { IfErr result (λ r. r.place < length text.now) }
     {
         let mut bytes = [0; N];
@@ -52,7 +52,7 @@ impl<const N: usize> Bounded<N> {
         &self.bytes[..self.len]
     }
 
-    // Appends bytes, if there is room.
+    /// Appends bytes, if there is room.
     pub fn put(&mut self, bytes: &[u8]) -> Result<(), Refusal>
         ensures answer { result ≡ room_answer N (text_of self.old) bytes.now }
         ensures text { text_of self.new ≡ extended N (text_of self.old) bytes.now }
@@ -61,7 +61,7 @@ impl<const N: usize> Bounded<N> {
         Ok(())
     }
 
-    // Appends a number in decimal.
+    /// Appends a number in decimal.
     pub fn put_number(&mut self, n: u64) -> Result<(), Refusal>
         ensures answer { result ≡ room_answer N (text_of self.old) (decimal n) }
         ensures text { text_of self.new ≡ extended N (text_of self.old) (decimal n) }
@@ -70,7 +70,7 @@ impl<const N: usize> Bounded<N> {
         Ok(())
     }
 
-    // Appends a text, its bytes of the class escaped.
+    /// Appends a text, its bytes of the class escaped.
     pub fn put_escaped(&mut self, text: &[u8], class: Class) -> Result<(), Refusal>
         ensures answer { result ≡ room_answer N (text_of self.old) (encoded_by (in_class class) text.now) }
         ensures text { text_of self.new ≡ extended N (text_of self.old) (encoded_by (in_class class) text.now) }
@@ -79,7 +79,7 @@ impl<const N: usize> Bounded<N> {
         Ok(())
     }
 
-    // Appends the changes of the first fields of a delta as a list.
+    /// Appends the changes of the first fields of a delta as a list.
     pub fn put_list<R: Value>(&mut self, delta: &[Change<R>], fields: usize) -> Result<(), Refusal>
         ensures answer { result ≡ list_room_answer R.kind N (text_of self.old) delta.now fields }
         ensures text { text_of self.new ≡ list_extended R.kind N (text_of self.old) delta.now fields }

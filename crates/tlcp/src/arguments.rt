@@ -1,8 +1,9 @@
-// What stands behind a line's tag, divided into arguments. The last takes the rest of the line, commas included.
+//! What stands behind a line's tag, divided into arguments. The last takes the rest of the line, commas included.
 ghost use Rattle.std.specs.Prelude.{◌≡◌};
 ghost use Rattle.std.specs.Option.{option_map};
 ghost use Rattle.tlcp.specs.Dividing.{behind_next, last_piece, next_piece, no_piece};
-ghost use Rattle.tlcp.specs.Said.{on_ok, piece_in};
+ghost use Rattle.std.specs.Result.{result_map_both};
+ghost use Rattle.tlcp.specs.Said.{piece_in};
 
 use crate::line::Part;
 use row::{Fault, Refusal};
@@ -18,7 +19,7 @@ pub(crate) struct Arguments<'a> {
 impl<'a> Arguments<'a> {
     // An argument before the last.
     pub(crate) fn next(&mut self) -> Result<Part<'a>, Refusal>
-        ensures answer { on_ok piece_in result ≡ next_piece self.old.end (option_map piece_in self.old.left) }
+        ensures answer { result_map_both piece_in (λ e. e) result ≡ next_piece self.old.end (option_map piece_in self.old.left) }
         ensures left { option_map piece_in self.new.left ≡ behind_next (option_map piece_in self.old.left) }
         ensures end { self.new.end ≡ self.old.end }
     {
@@ -31,7 +32,7 @@ impl<'a> Arguments<'a> {
     }
 
     pub(crate) fn last(self) -> Result<Part<'a>, Refusal>
-        ensures { on_ok piece_in result ≡ last_piece self.entry.end (option_map piece_in self.entry.left) }
+        ensures { result_map_both piece_in (λ e. e) result ≡ last_piece self.entry.end (option_map piece_in self.entry.left) }
     {
         let Some(part) = self.left else {
             return Err(Fault::Parts.at(self.end));

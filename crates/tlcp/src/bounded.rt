@@ -1,7 +1,7 @@
-// Bytes up to a limit, held in place.
+//! Bytes up to a limit, held in place.
 ghost use Rattle.std.specs.Prelude.{◌≤◌};
 
-// The first `len` of the bytes.
+/// The first `len` of the bytes.
 // kept: the library's `ArrayVec` is not `Copy`, and a request, which holds such texts, is
 #[derive(Clone, Copy)]
 pub struct Bounded<const N: usize> {

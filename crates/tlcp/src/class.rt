@@ -1,4 +1,4 @@
-// The classes of bytes that reading and writing ask for.
+//! The classes of bytes that reading and writing ask for.
 ghost use Rattle.std.specs.Prelude.{◌≡◌};
 ghost use Rattle.row.specs.Texts.{every};
 ghost use Rattle.tlcp.specs.Bytes.{bit_of, in_class};
@@ -8,15 +8,15 @@ ghost use Rattle.tlcp.specs.Bytes.{bit_of, in_class};
 pub enum Class {
     Digit = 1,
     Hex = 2,
-    // written with an escape wherever it stands in a value
+    /// written with an escape wherever it stands in a value
     Escaped = 4,
-    // written with an escape as a value's first byte
+    /// written with an escape as a value's first byte
     EscapedFirst = 8,
-    // written with an escape in a request
+    /// written with an escape in a request
     Reserved = 16,
-    // a letter or a digit
+    /// a letter or a digit
     Alphanumeric = 32,
-    // stands in a request's value, by itself or as the start of an escape
+    /// stands in a request's value, by itself or as the start of an escape
     Plain = 64,
 }
 
@@ -42,14 +42,14 @@ impl Class {
     }
 }
 
-// Whether a byte is of a class.
+/// Whether a byte is of a class.
 pub fn is_of(b: u8, class: Class) -> bool
     ensures { result ≡ in_class class b }
 {
     CLASSES[b as usize] & class.bit() != 0
 }
 
-// Whether all bytes of a text are of a class.
+/// Whether all bytes of a text are of a class.
 pub fn all_of(s: &[u8], class: Class) -> bool
     ensures { result ≡ every (in_class class) s.now }
 {

@@ -1,4 +1,4 @@
-// Parts of a text, cut at a byte.
+//! Parts of a text, cut at a byte.
 ghost use Rattle.std.specs.Prelude.{◌≡◌};
 ghost use Rattle.std.specs.Option.{option_map};
 ghost use Rattle.tlcp.specs.Lines.{front_at, rest_at};
@@ -8,7 +8,7 @@ use crate::part::Placed;
 use crate::text::split;
 
 impl<'a, const LIMIT: usize> Placed<'a, LIMIT> {
-    // What stands before the first `b`, and what stands behind it, if there is one.
+    /// What stands before the first `b`, and what stands behind it, if there is one.
     pub fn cut(self, b: u8) -> (Placed<'a, LIMIT>, Option<Placed<'a, LIMIT>>)
         ensures front { piece_in result.0 ≡ front_at b (piece_in self.entry) }
         ensures rest { option_map piece_in result.1 ≡ rest_at b (piece_in self.entry) }

@@ -1,4 +1,4 @@
-// Texts written with escapes.
+//! Texts written with escapes.
 ghost use Rattle.std.specs.Prelude.{◌≡◌, ◌/◌, ◌%◌, ◌<◌, [], ◌∷◌, length, nat_le};
 ghost use Rattle.tlcp.specs.Bytes.{in_class};
 ghost use Rattle.tlcp.specs.Escapes.{encoded_by, hex_digit, spelled};
@@ -17,7 +17,7 @@ pub(crate) fn hex_digit(n: u8) -> u8
     if n <= 9 { b'0' + n } else { b'A' + (n - 10) }
 }
 
-// The two capital hexadecimal digits of a byte.
+/// The two capital hexadecimal digits of a byte.
 pub fn hex_digits(b: u8) -> [u8; 2]
     ensures { result ≡ hex_digit (b / 16) ∷ hex_digit (b % 16) ∷ [] }
 {
@@ -60,7 +60,7 @@ fn is_within(text: &[u8], class: Class, room: usize) -> bool
     true
 }
 
-// Writes a text from the place `at` on, its bytes of the class escaped, if it fits, and answers the place behind it.
+/// Writes a text from the place `at` on, its bytes of the class escaped, if it fits, and answers the place behind it.
 pub fn put_escaped(out: &mut [u8], at: usize, text: &[u8], class: Class) -> Result<usize, Refusal>
     ensures answer { result ≡ end_or at (encoded_by (in_class class) text.now) out.old }
     ensures bytes { out.new ≡ placed_or at (encoded_by (in_class class) text.now) out.old }

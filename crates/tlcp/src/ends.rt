@@ -1,4 +1,4 @@
-// The ends of lines in a text.
+//! The ends of lines in a text.
 ghost use Rattle.std.specs.Prelude.{◌≡◌, ◌+◌, ◌≤◌, length, IfSome};
 ghost use Rattle.tlcp.specs.Dividing.{ends_here, first_end};
 
@@ -8,7 +8,7 @@ fn ends_here(s: &[u8]) -> bool
     matches!(s, [b'\r', b'\n', ..])
 }
 
-// The place of the first CR LF, if there is one.
+/// The place of the first CR LF, if there is one.
 pub fn find_end(s: &[u8]) -> Option<usize>
     ensures value { result ≡ first_end s.now }
     ensures within { IfSome result (λ end. end + 2 ≤ length s.now) }

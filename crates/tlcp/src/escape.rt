@@ -1,4 +1,4 @@
-// Escapes: `%` and two hexadecimal digits stand for one byte.
+//! Escapes: `%` and two hexadecimal digits stand for one byte.
 ghost use Rattle.std.specs.Prelude.{◌≡◌, ◌<◌, ◌≤◌, true, length, IfSome, if◌then◌else◌, Some, None, MatchResult};
 ghost use Rattle.std.specs.Option.{option_map};
 ghost use Rattle.tlcp.specs.Bytes.{is_hex};
@@ -21,7 +21,7 @@ fn hex_value(b: u8) -> u8
     }
 }
 
-// The value of a byte as a hexadecimal digit, if it is one.
+/// The value of a byte as a hexadecimal digit, if it is one.
 pub fn hex_of(b: u8) -> Option<u8>
     ensures value { result ≡ (if is_hex b then Some (hex_value b) else None) }
     ensures bound { IfSome result (λ n. n < 16) }
@@ -40,8 +40,8 @@ fn unit(s: &[u8]) -> Option<(u8, &[u8])>
     }
 }
 
-// Decodes `s` into `out`, as much as there is room for. Answers how many bytes `s` stands for.
-// Refuses the first `%` without two hexadecimal digits; `out` then has what comes before that.
+/// Decodes `s` into `out`, as much as there is room for. Answers how many bytes `s` stands for.
+/// Refuses the first `%` without two hexadecimal digits; `out` then has what comes before that.
 pub fn decode(s: &[u8], out: &mut [u8]) -> Result<usize, Refusal>
     ensures answer { result ≡ decode_answer (decoded s.now) }
     ensures bytes { out.new ≡ overlaid (decoded s.now).bytes out.old }

@@ -1,4 +1,4 @@
-// The text of TLCP 2.0.0: byte classes, escapes, numbers, value lists and lines.
+//! The text of TLCP 2.0.0: byte classes, escapes, numbers, value lists and lines.
 #![tactic(auto)]
 
 mod append;

@@ -1,4 +1,4 @@
-// Lines from the emulator.
+//! Lines from the emulator.
 ghost use Rattle.std.specs.Prelude.{◌≡◌};
 ghost use Rattle.tlcp.specs.Lines.{ReadsSaid, read_line};
 ghost use Rattle.tlcp.specs.Said.{said};
@@ -9,13 +9,13 @@ use crate::part::Placed;
 use crate::tag::Tag;
 use row::{Fault, Refusal};
 
-// The bytes of a line, without its end.
+/// The bytes of a line, without its end.
 pub const LINE_LIMIT: usize = 1172;
 
-// A part of a line.
+/// A part of a line.
 pub type Part<'a> = Placed<'a, LINE_LIMIT>;
 
-// What a line says.
+/// What a line says.
 #[derive(Clone, Copy)]
 pub enum Notification<'a> {
     Probe,
@@ -66,15 +66,15 @@ pub enum Notification<'a> {
     },
 }
 
-// A line's tag as it stands in the line, and what the line says.
+/// A line's tag as it stands in the line, and what the line says.
 #[derive(Clone, Copy)]
 pub struct Line<'a> {
     pub tag: Part<'a>,
     pub says: Notification<'a>,
 }
 
-// Reads a line, given without its end. Refuses one that is too long, has an unknown tag, too few
-// arguments or too many, or an argument that is not what its place asks for.
+/// Reads a line, given without its end. Refuses one that is too long, has an unknown tag, too few
+/// arguments or too many, or an argument that is not what its place asks for.
 pub fn read_line(line: &[u8]) -> Result<Line<'_>, Refusal>
     ensures answer { said result ≡ read_line line.now }
     ensures said { ReadsSaid }

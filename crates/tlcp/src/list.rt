@@ -1,4 +1,4 @@
-// Value lists: reading.
+//! Value lists: reading.
 ghost use Rattle.std.specs.Prelude.{◌≡◌, ◌+◌, ◌-◌, ◌<◌, ◌≤◌, true, length, is_ok, IfErr, if◌then◌else◌, Some, None, Ok, Err, nat_eq};
 ghost use Rattle.row.specs.Limits.{field_limit};
 ghost use Rattle.row.specs.Records.{memory_refusal};
@@ -10,7 +10,7 @@ use crate::number::{Limits, read_number};
 use crate::text::split;
 use row::{Change, FIELD_LIMIT, Fault, Mark, Refusal, TEXT_LIMIT, Value, blank};
 
-// The row is not covered exactly: the whole list is at fault.
+/// The row is not covered exactly: the whole list is at fault.
 pub const UNCOVERED: Refusal = Refusal {
     fault: Fault::Cover,
     place: 0,
@@ -111,8 +111,8 @@ fn read_values<R: Value>(list: &[u8], fields: usize, delta: &mut [Change<R>]) ->
     Err(UNCOVERED)
 }
 
-// Reads a list for a row of so many fields. The delta's twelve places then hold what the list says, with same
-// behind the fields, or where it is refused twelve same.
+/// Reads a list for a row of so many fields. The delta's twelve places then hold what the list says, with same
+/// behind the fields, or where it is refused twelve same.
 pub fn read_list<R: Value>(
     list: &[u8],
     fields: usize,

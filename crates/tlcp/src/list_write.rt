@@ -1,10 +1,10 @@
-// Value lists: writing. A list is first written into a buffer, with a pipe before each value.
+//! Value lists: writing. A list is first written into a buffer, with a pipe before each value.
 ghost use Rattle.std.specs.Prelude.{◌≡◌, ◌+◌, ◌*◌, ◌≤◌, map, length, Ok};
 ghost use Rattle.row.specs.Limits.{field_limit, text_limit};
 ghost use Rattle.row.specs.Records.{change_of};
 ghost use Rattle.tlcp.specs.Bounds.{Adds, text_of};
 ghost use Rattle.tlcp.specs.Lists.{each_piped, run_values, text_value, written_values};
-ghost use Rattle.tlcp.specs.Said.{on_ok};
+ghost use Rattle.std.specs.Result.{result_map_both};
 ghost use Rattle.tlcp.specs.Written.{covers, field_room, piped_limit, values_of, list_answer, list_placed, ReadBack};
 
 use crate::bounded::Bounded;
@@ -16,7 +16,7 @@ use row::{Change, FIELD_LIMIT, Mark, Refusal, TEXT_LIMIT, Value};
 // For each field a pipe and a text whose bytes are all escaped.
 const PIPED_LIMIT: usize = (3 * TEXT_LIMIT + 1) * FIELD_LIMIT;
 
-// The longest list: no pipe stands before the first value.
+/// The longest list: no pipe stands before the first value.
 pub const LIST_LIMIT: usize = PIPED_LIMIT - 1;
 
 type Piped = Bounded<PIPED_LIMIT>;
@@ -73,7 +73,7 @@ fn put_change<R: Value>(list: &mut Piped, change: &Change<R>) -> Result<(), Refu
 // The values of a delta, each behind a pipe.
 fn piped<R: Value>(delta: &[Change<R>]) -> Result<Piped, Refusal>
     requires { length delta.now ≤ field_limit }
-    ensures { on_ok text_of result ≡ Ok (each_piped (written_values 0 (map (change_of R.kind) delta.now))) }
+    ensures { result_map_both text_of (λ e. e) result ≡ Ok (each_piped (written_values 0 (map (change_of R.kind) delta.now))) }
 {
     let mut list = Piped::new();
     let mut run = 0;
@@ -90,7 +90,7 @@ fn piped<R: Value>(delta: &[Change<R>]) -> Result<Piped, Refusal>
     Ok(list)
 }
 
-// Whether a list covers so many fields.
+/// Whether a list covers so many fields.
 pub fn covers(fields: usize) -> bool
     ensures { result ≡ covers fields }
 {

@@ -1,4 +1,4 @@
-// Numbers in decimal, without sign or leading zero, and codes, which may be negative.
+//! Numbers in decimal, without sign or leading zero, and codes, which may be negative.
 ghost use Rattle.std.specs.Prelude.{◌≡◌, ℕ, ◌≤◌, ◌||◌, length, ℤ, IfSome, ◌==◌};
 ghost use Rattle.tlcp.specs.Numbers.{leading_zero, number_of, code_of};
 ghost use Rattle.tlcp.specs.Holding.{hold};
@@ -6,16 +6,16 @@ ghost use Rattle.tlcp.specs.Holding.{hold};
 use crate::class::{Class, is_of};
 use row::FIELD_LIMIT;
 
-// The highest subscription ID.
+/// The highest subscription ID.
 pub const ID_LIMIT: u32 = 9999;
 
-// The highest count.
+/// The highest count.
 pub const COUNT_LIMIT: u32 = 999_999_999;
 
-// The largest magnitude of a code.
+/// The largest magnitude of a code.
 pub const CODE_LIMIT: u32 = 999_999;
 
-// The numbers that a place takes: from `low` to `high`.
+/// The numbers that a place takes: from `low` to `high`.
 #[derive(Clone, Copy)]
 pub struct Limits {
     pub low: u32,
@@ -27,7 +27,7 @@ impl Limits {
         low: 1,
         high: ID_LIMIT,
     };
-    // an item, and how many there are
+    /// an item, and how many there are
     pub const SINGLE: Limits = Limits { low: 1, high: 1 };
 
     pub const FIELDS: Limits = Limits {
@@ -65,7 +65,7 @@ fn is_misshapen(s: &[u8]) -> bool
     matches!(s, [] | [b'0', _, ..])
 }
 
-// The number that `s` writes, if it is within the limits.
+/// The number that `s` writes, if it is within the limits.
 // kept: digit by digit; the library's `parse` takes a sign and leading zeros
 pub fn read_number(s: &[u8], limits: Limits) -> Option<u32>
     ensures value { result ≡ number_of limits.low limits.high s.now }
@@ -88,7 +88,7 @@ pub fn read_number(s: &[u8], limits: Limits) -> Option<u32>
     (u64::from(low) <= value).then_some(value as u32)
 }
 
-// The code that `s` writes: a number up to the limit, or one below zero with a minus before it.
+/// The code that `s` writes: a number up to the limit, or one below zero with a minus before it.
 pub fn read_code(s: &[u8]) -> Option<i32>
     ensures { result ≡ code_of s.now }
 {

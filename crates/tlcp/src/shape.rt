@@ -1,9 +1,10 @@
-// What lines say, by the shapes that tags ask for.
+//! What lines say, by the shapes that tags ask for.
 ghost use Rattle.std.specs.Prelude.{◌≡◌, [], ◌∷◌};
 ghost use Rattle.std.specs.Option.{option_map};
 ghost use Rattle.tlcp.specs.Lines.{arguments_of, code, read_arguments};
 ghost use Rattle.tlcp.specs.Lines as lines;
-ghost use Rattle.tlcp.specs.Said.{Tells, coding, on_ok, piece_in, wording};
+ghost use Rattle.std.specs.Result.{result_map_both};
+ghost use Rattle.tlcp.specs.Said.{Tells, coding, piece_in, wording};
 
 use crate::argument::Code;
 use crate::arguments::Arguments;
@@ -14,7 +15,7 @@ use row::Refusal;
 
 impl<'a> Part<'a> {
     fn code_and_text(self, text: Part<'a>) -> Result<(Code<'a>, Part<'a>), Refusal>
-        ensures { on_ok (λ a. coding a.0 ∷ wording a.1 ∷ []) result ≡ read_arguments (code ∷ lines.text ∷ []) (piece_in self.entry ∷ piece_in text.entry ∷ []) }
+        ensures { result_map_both (λ a. coding a.0 ∷ wording a.1 ∷ []) (λ e. e) result ≡ read_arguments (code ∷ lines.text ∷ []) (piece_in self.entry ∷ piece_in text.entry ∷ []) }
     {
         Ok((self.code()?, text.text()?))
     }
@@ -22,7 +23,7 @@ impl<'a> Part<'a> {
 
 impl<'a> Arguments<'a> {
     fn code_and_text(mut self) -> Result<(Code<'a>, Part<'a>), Refusal>
-        ensures { on_ok (λ a. coding a.0 ∷ wording a.1 ∷ []) result ≡ arguments_of (code ∷ lines.text ∷ []) self.entry.end (option_map piece_in self.entry.left) }
+        ensures { result_map_both (λ a. coding a.0 ∷ wording a.1 ∷ []) (λ e. e) result ≡ arguments_of (code ∷ lines.text ∷ []) self.entry.end (option_map piece_in self.entry.left) }
     {
         let number = self.next()?;
         let text = self.last()?;

@@ -1,4 +1,4 @@
-// The tags of lines.
+//! The tags of lines.
 ghost use Rattle.std.specs.Prelude.{◌≡◌};
 ghost use Rattle.tlcp.specs.Lines.{tag_of, word};
 
@@ -75,7 +75,7 @@ impl Worded for Tag {
 }
 
 impl Tag {
-    // The tag that a word stands for.
+    /// The tag that a word stands for.
     // kept: with `TryFrom`, whose error is the unknown tag's refusal, the proof of `read_line` did not close
     pub fn of(word: &[u8]) -> Option<Tag>
         ensures { result ≡ tag_of word.now }

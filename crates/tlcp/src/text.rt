@@ -1,10 +1,10 @@
-// Texts divided at a byte.
+//! Texts divided at a byte.
 ghost use Rattle.std.specs.Prelude.{◌≡◌, ◌+◌, ◌<◌, ◌≤◌, length, position, IfSome, MatchOption, ◌==◌};
 ghost use Rattle.std.specs.Option.{option_map};
 ghost use Rattle.tlcp.specs.Lines.{same_bytes};
 ghost use Rattle.tlcp.specs.Parts.{before, behind};
 
-// The place of the first `b`, if there is one.
+/// The place of the first `b`, if there is one.
 pub fn find(s: &[u8], b: u8) -> Option<usize>
     ensures value { result ≡ position (λ x. x == b) s.now }
     ensures within { IfSome result (λ i. i < length s.now) }
@@ -12,7 +12,7 @@ pub fn find(s: &[u8], b: u8) -> Option<usize>
     s.iter().position(|x| *x == b)
 }
 
-// What stands before the first `b`, and what stands behind it, if there is one.
+/// What stands before the first `b`, and what stands behind it, if there is one.
 // kept: a stream's lines are cut by a function of their own, part by part; with this one `follow` is slower than before
 pub fn split(s: &[u8], b: u8) -> (&[u8], Option<&[u8]>)
     ensures front { result.0.now ≡ before b s.now }
@@ -26,7 +26,7 @@ pub fn split(s: &[u8], b: u8) -> (&[u8], Option<&[u8]>)
     }
 }
 
-// Whether a text is this word.
+/// Whether a text is this word.
 pub fn is_word(s: &[u8], word: &[u8]) -> bool
     ensures { result ≡ same_bytes s.now word.now }
 {

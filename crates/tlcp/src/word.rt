@@ -1,10 +1,10 @@
-// Things that words of the protocol stand for.
+//! Things that words of the protocol stand for.
 ghost use Rattle.std.specs.Prelude.{◌≡◌, ℕ, List};
 ghost use Rattle.tlcp.specs.Dividing.{first_with};
 
 use crate::text::is_word;
 
-// A thing that a word stands for.
+/// A thing that a word stands for.
 pub trait Worded: Copy {
     ghost word_of: { Self → List ℕ };
 
@@ -12,7 +12,7 @@ pub trait Worded: Copy {
         ensures { result.now ≡ word_of self };
 }
 
-// The first of some things that has this word.
+/// The first of some things that has this word.
 pub fn first_with<W: Worded>(all: &[W], word: &[u8]) -> Option<W>
     ensures { result ≡ first_with W.word_of all.now word.now }
 {

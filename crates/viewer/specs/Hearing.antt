@@ -2,7 +2,7 @@
 use Rattle.std.specs.Prelude.{ℕ, Bool, cond, ◌&&◌, List, [], map, length, Some, None, Ok, Err, Option, Result, ◌==◌, slice_index_or, slice_set}
 use Rattle.row.specs.Kinds.{Kind}
 use Rattle.row.specs.Limits.{field_limit, cell_limit}
-use Rattle.row.specs.Records.{held, memory_refusal}
+use Rattle.row.specs.Records.{change_record, memory_refusal}
 use Rattle.row.specs.Rows as rows
 use Rattle.row.specs.Rows.{same}
 use Rattle.row.specs.declared.change.Cell.{Cell}
@@ -10,7 +10,8 @@ use Rattle.row.specs.declared.change.Change.{Change}
 use Rattle.row.specs.declared.fault.Refusal.{Refusal}
 use Rattle.tlcp.specs.Held.{filled, held_delta}
 use Rattle.tlcp.specs.Lines.{Message, Argument, numbered, coded, worded, listed, piece_of, piece, read_line}
-use Rattle.tlcp.specs.Lists.{read_list, shifted}
+use Rattle.row.specs.Faults.{moved}
+use Rattle.tlcp.specs.Lists.{read_list}
 use Rattle.tlcp.specs.Parts.{Piece}
 use Rattle.tlcp.specs.declared.tag.Tag.{Tag}
 use Rattle.tlcp.specs.declared.tag.Tag.TheVariants.{U, Probe, Sync, Loop, Cons, Servname, Clientip, Reqok, Unsub, Conerr, End, Error, Eos, Subok, Ov, Conf, Reqerr, Conok}
@@ -68,7 +69,7 @@ outcome es cs d a = record { entries = es; cells = cs; delta = d; answer = a }
 
 module _ {R : Type 0} (k : Kind R) where
   abbrev pub blank_delta : List (Change R)
-  blank_delta = map (held k) (filled [])
+  blank_delta = map (change_record k) (filled [])
 
   -- nothing is changed but the lent changes
   abbrev pub unmoved : List Entry → List (Cell R) → Result Heard Refusal → Outcome R
@@ -81,7 +82,7 @@ module _ {R : Type 0} (k : Kind R) where
 
   abbrev pub change_by : List Entry → List (Cell R) → ℕ → ℕ → Result (List rows.Change) Refusal → Outcome R
   change_by es cs at i (Ok d) = record { entries = es; cells = change_row k i d cs; delta = held_delta k (Ok d); answer = Ok Taken }
-  change_by es cs at i (Err r) = unmoved es cs (Err (shifted at r))
+  change_by es cs at i (Err r) = unmoved es cs (Err (moved at r))
 
   -- the row of an open entry with so many fields is changed
   abbrev pub update : List Entry → List (Cell R) → Piece → Option (ℕ × ℕ) → Outcome R

@@ -1,8 +1,8 @@
-// The entries of a viewer.
+//! The entries of a viewer.
 ghost use Rattle.std.specs.Prelude.{◌≡◌, ◌<◌, length, IfSome};
 ghost use Rattle.viewer.specs.Entries.{find_entry, find_open, fits, fits_open};
 
-// What the viewer knows of a tap: its subscription ID, and the field count if that is open.
+/// What the viewer knows of a tap: its subscription ID, and the field count if that is open.
 // kept: a tap's cells do not stand in its entry, since they are lent, by the project's rule
 // kept: 0 for no ID; `Viewer::holding` takes any numbers, so of an Option `None` and `Some(0)` would both be no ID
 #[derive(Clone, Copy, PartialEq, Debug)]

@@ -1,4 +1,4 @@
-// A viewer: hears lines, and keeps the rows of subscribed taps.
+//! A viewer: hears lines, and keeps the rows of subscribed taps.
 ghost use Rattle.std.specs.Prelude.{◌≡◌, map, length};
 ghost use Rattle.row.specs.Limits.{field_limit, tap_limit, cell_limit};
 ghost use Rattle.tlcp.specs.Said.{arguments_in, piece_in, tag_in};
@@ -10,11 +10,11 @@ use crate::rows::{clear_row, update_row};
 use row::{CELL_LIMIT, Cell, Change, FIELD_LIMIT, Refusal, TAP_LIMIT, Value, blank};
 use tlcp::{Notification, Part, read_line, read_list};
 
-// What came of a line that was accepted.
+/// What came of a line that was accepted.
 #[derive(Clone, Copy, PartialEq, Debug)]
 pub enum Heard {
     Taken,
-    // no entry fits it
+    /// no entry fits it
     Passed,
 }
 
@@ -26,7 +26,7 @@ pub struct Viewer {
 // kept: lent cells and changes are two parameters with a length each; a struct over both needs a clause at each function that
 // it keeps their places, and of a slice of a generic type the checker covers no array
 impl Viewer {
-    // A viewer whose entries hold these IDs, closed.
+    /// A viewer whose entries hold these IDs, closed.
     pub fn holding(ids: [u32; TAP_LIMIT]) -> Viewer
         ensures { result.entries ≡ map waiting ids }
     {
@@ -35,7 +35,7 @@ impl Viewer {
         }
     }
 
-    // The entries, one for each tap.
+    /// The entries, one for each tap.
     pub fn entries(&self) -> &[Entry]
         ensures value { result.now ≡ self.now.entries }
         ensures len { length result.now ≡ tap_limit }
@@ -118,7 +118,7 @@ impl Viewer {
         }
     }
 
-    // Hears a line, given without its end. The changes then hold what an update brought, otherwise twelve same.
+    /// Hears a line, given without its end. The changes then hold what an update brought, otherwise twelve same.
     pub fn hear<R: Value>(
         &mut self,
         line: &[u8],

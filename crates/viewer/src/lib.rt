@@ -1,4 +1,4 @@
-// A viewer: eight entries that follow the rows of subscribed taps by hearing lines.
+//! A viewer: eight entries that follow the rows of subscribed taps by hearing lines.
 #![tactic(auto)]
 
 mod entry;

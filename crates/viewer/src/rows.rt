@@ -1,7 +1,7 @@
-// A row among the cells of all taps.
+//! A row among the cells of all taps.
 ghost use Rattle.std.specs.Prelude.{◌≡◌, ◌<◌, map, length};
-ghost use Rattle.row.specs.Records.{takes};
-ghost use Rattle.row.specs.Rows.{over, row_at, with_row};
+ghost use Rattle.row.specs.Records.{changed_cells};
+ghost use Rattle.row.specs.Rows.{row_at, with_row};
 ghost use Rattle.row.specs.Limits.{field_limit, tap_limit, cell_limit};
 ghost use Rattle.viewer.specs.Rows.{null_row};
 
@@ -19,7 +19,7 @@ pub(crate) fn clear_row<R: Value>(cells: &mut [Cell<R>], i: usize)
 // Changes a tap's row by a delta.
 pub(crate) fn update_row<R: Value>(cells: &mut [Cell<R>], i: usize, delta: &[Change<R>])
     requires { (i < tap_limit) × ((length cells.old ≡ cell_limit) × (length delta.now ≡ field_limit)) }
-    ensures { cells.new ≡ with_row i (over takes (row_at i cells.old) delta.now) cells.old }
+    ensures { cells.new ≡ with_row i (changed_cells R.kind (row_at i cells.old) delta.now) cells.old }
 {
     let at = FIELD_LIMIT * i;
     // both have the places of a row

@@ -10,7 +10,7 @@ use Rattle.row.specs.Faults.{refusal}
 use Rattle.row.specs.declared.fault.Fault.TheVariants.{Absent}
 use Rattle.row.specs.Kinds.{Kind, Lawful}
 use Rattle.row.specs.Limits.{field_limit, tap_limit, cell_limit}
-use Rattle.row.specs.Records.{canonical, change_of, held, later}
+use Rattle.row.specs.Records.{canonical, change_of, change_record, later}
 use Rattle.row.specs.Rows as rows
 use Rattle.row.specs.Rows.{same, over, join, all_same, row_at, with_row}
 use Rattle.row.specs.Taps.{is_tap, tap_numbered}
@@ -74,7 +74,7 @@ first-removed n t x (p ∷ l) e f =
 numbered : (t n : ℕ) → Ok t ≡ tap_numbered n → t ≡ n
 numbered t n = from (is_tap n)
   where
-    from : (b : Bool) → Ok t ≡ cond b (Ok n) (Err (refusal Absent)) → t ≡ n
+    from : (b : Bool) → Ok t ≡ cond b (Ok n) (Err (refusal Absent 0)) → t ≡ n
     from true e = cc
     from false e = cc
 
@@ -205,10 +205,10 @@ module _ {R : Type 0} (k : Kind R) where
 
   -- the kind keeps the records of what each change means, and no more is asked
   marks-kept : (cs : List (Change R)) → length cs ≡ cell_limit → cs ≡ map (canonical k) cs → Kept k marks cs (marks_of k cs)
-  marks-kept cs long e = e ∙ canonical-map k cs ∙ ap (map (held k)) (sym (marks-layout tap_limit 1 cs long))
+  marks-kept cs long e = e ∙ canonical-map k cs ∙ ap (map (change_record k)) (sym (marks-layout tap_limit 1 cs long))
 
   pub kept-canonical : (cs : List (Change R)) → length cs ≡ cell_limit → Kept k marks cs (marks_of k cs) → cs ≡ map (canonical k) cs
-  kept-canonical cs long h = h ∙ ap (map (held k)) (marks-layout tap_limit 1 cs long) ∙ sym (canonical-map k cs)
+  kept-canonical cs long h = h ∙ ap (map (change_record k)) (marks-layout tap_limit 1 cs long) ∙ sym (canonical-map k cs)
 
   -- the pair that is shown
   pub shown : (cs : List (Change R)) (i t : ℕ) (l : List Pair) → Ok t ≡ tap_numbered (i + 1) → first l ≡ Ok (pair (i + 1) (means (row_at i cs))) → (row : List (Change R)) → row ≡ row_at i cs → Ok (pair t (means row)) ≡ first l
@@ -230,12 +230,12 @@ module _ {R : Type 0} (k : Kind R) where
 
   module _ (cs new : List (Change R)) (i : ℕ) (long : length cs ≡ cell_limit) (inside : i < tap_limit) where
     -- after `clear_row`
-    module _ (put : new ≡ with_row i (replicate field_limit (held k same)) cs) where
+    module _ (put : new ≡ with_row i (replicate field_limit (change_record k same)) cs) where
       pub cleared-kept : Kept k marks cs (marks_of k cs) → Kept k marks new (marks_of k new)
-      cleared-kept = row-kept cs new (replicate field_limit (held k same)) i long inside put refl refl
+      cleared-kept = row-kept cs new (replicate field_limit (change_record k same)) i long inside put refl refl
 
       pub cleared : (t : ℕ) → 1 + i ≡ t → marks_of k new ≡ without t (marks_of k cs)
-      cleared t e = row-cleared cs new (replicate field_limit (held k same)) i long inside put refl refl ∙ ap (λ u. without u (marks_of k cs)) e
+      cleared t e = row-cleared cs new (replicate field_limit (change_record k same)) i long inside put refl refl ∙ ap (λ u. without u (marks_of k cs)) e
 
       pub cleared-first : first (marks_of k cs) ≡ Ok (pair (i + 1) (means (row_at i cs))) → marks_of k new ≡ drop 1 (marks_of k cs)
       cleared-first f =

@@ -8,7 +8,7 @@ use Rattle.std.proofs.lemmas.Grind.{flat_map-append}
 use Rattle.std.proofs.lemmas.List.Edits.{length-remove}
 use Rattle.row.specs.Kinds.{Kind, Lawful}
 use Rattle.row.specs.Limits.{field_limit}
-use Rattle.row.specs.Records.{canonical, change_of, held}
+use Rattle.row.specs.Records.{canonical, change_of, change_record}
 use Rattle.row.specs.Rows as rows
 use Rattle.row.specs.Rows.{becomes, value, same, all_same, with_row}
 use Rattle.row.specs.declared.change.Change.{Change}
@@ -177,19 +177,19 @@ list_all-moved p xs i d h e =
     ∙ and_from _ _ (list_all-removed p xs i e) (and_from _ _ (and_parts _ _ (sym (ap (list_all p) (drop_more xs i d h)) ∙ (list_all-parts p i xs e).1)).0 refl)
 
 module _ {R : Type 0} (k : Kind R) (cs : List (Change R)) (l : List Pair) (listed : queue.holds l ≡ true) (old : Kept k queue cs l) where
-  pub kept-removed : (i : ℕ) → i < length l → Kept k queue (take (field_limit * i) cs ++ (drop (field_limit * i + field_limit) cs ++ replicate field_limit (held k same))) (remove l i)
+  pub kept-removed : (i : ℕ) → i < length l → Kept k queue (take (field_limit * i) cs ++ (drop (field_limit * i + field_limit) cs ++ replicate field_limit (change_record k same))) (remove l i)
   kept-removed i h =
       let at = field_limit * i in
       let parts = and_parts (nat_le (length l) pair_limit) _ listed in
-      ap (λ m. take at m ++ (drop (at + field_limit) m ++ map (held k) (replicate field_limit same))) old
-      ∙ map-ends (held k) at (at + field_limit) (queue.layout l) (replicate field_limit same)
-      ∙ ap (map (held k)) (lays-removed pair_limit l parts.1 i h (leb-true (length l) pair_limit parts.0))
+      ap (λ m. take at m ++ (drop (at + field_limit) m ++ map (change_record k) (replicate field_limit same))) old
+      ∙ map-ends (change_record k) at (at + field_limit) (queue.layout l) (replicate field_limit same)
+      ∙ ap (map (change_record k)) (lays-removed pair_limit l parts.1 i h (leb-true (length l) pair_limit parts.0))
 
-  pub kept-pushed : (t : ℕ) (d : List rows.Change) → length l < pair_limit → length d ≡ field_limit → Kept k queue (with_row (length l) (map (held k) d) cs) (l ++ pair t d ∷ [])
+  pub kept-pushed : (t : ℕ) (d : List rows.Change) → length l < pair_limit → length d ≡ field_limit → Kept k queue (with_row (length l) (map (change_record k) d) cs) (l ++ pair t d ∷ [])
   kept-pushed t d room whole =
-      ap (λ m. with_row (length l) (map (held k) d) m) old
-      ∙ sym (map-with_row (held k) (length l) d (queue.layout l))
-      ∙ ap (map (held k)) (lays-pushed pair_limit l (and_parts (nat_le (length l) pair_limit) _ listed).1 t d whole room)
+      ap (λ m. with_row (length l) (map (change_record k) d) m) old
+      ∙ sym (map-with_row (change_record k) (length l) d (queue.layout l))
+      ∙ ap (map (change_record k)) (lays-pushed pair_limit l (and_parts (nat_le (length l) pair_limit) _ listed).1 t d whole room)
 
 module _ {R : Type 0} (k : Kind R) where
   -- rows that wait are pairs that wait, of whatever taps
@@ -232,9 +232,9 @@ module _ {R : Type 0} (k : Kind R) where
       let l = pairs_in k (t ∷ ts) cs in
       let layout = append_assoc d (deltas (pairs_in k ts (drop field_limit cs))) (replicate (field_limit * (pair_limit - length l)) same) in
       ap (take field_limit) old
-      ∙ take-map (held k) field_limit (queue.layout l)
-      ∙ ap (λ ds. map (held k) (take field_limit ds)) layout
-      ∙ ap (map (held k)) (take_at d _ field_limit wide)
+      ∙ take-map (change_record k) field_limit (queue.layout l)
+      ∙ ap (λ ds. map (change_record k) (take field_limit ds)) layout
+      ∙ ap (map (change_record k)) (take_at d _ field_limit wide)
       ∙ sym (canonical-map k row)
 
   pub drops-first : (ts : List ℕ) (cs : List (Change R)) → 1 ≤ length ts → drop_answer (pairs_in k ts cs) ≡ Ok tt

@@ -4,7 +4,7 @@ use Rattle.std.specs.List.{list_all}
 use Rattle.row.specs.Faults.{refusal}
 use Rattle.row.specs.Kinds.{Kind}
 use Rattle.row.specs.Limits.{field_limit}
-use Rattle.row.specs.Records.{held, memory_refusal}
+use Rattle.row.specs.Records.{change_record, memory_refusal}
 use Rattle.row.specs.Rows.{Change, same, join, all_same}
 use Rattle.row.specs.Taps.{is_tap}
 use Rattle.row.specs.declared.change.Change as records
@@ -58,20 +58,20 @@ pub record Lawful (b : Policy) : Type 0 where
 
 module _ (b : Policy) (l : List Pair) (t : ℕ) (d : List Change) where
   abbrev pub put_answer : Result (Unit {0}) Refusal
-  put_answer = cond (length d == field_limit) (cond (b.takes l t) (Ok tt) (Err (refusal Full))) (Err memory_refusal)
+  put_answer = cond (length d == field_limit) (cond (b.takes l t) (Ok tt) (Err (refusal Full 0))) (Err memory_refusal)
 
   abbrev pub put_list : List Pair
   put_list = cond (length d == field_limit && b.takes l t) (b.after l t d) l
 
 -- the first pair
 abbrev pub first : List Pair → Result Pair Refusal
-first [] = Err (refusal Nothing)
+first [] = Err (refusal Nothing 0)
 first (p ∷ l) = Ok p
 
 abbrev pub drop_answer : List Pair → Result (Unit {0}) Refusal
-drop_answer [] = Err (refusal Nothing)
+drop_answer [] = Err (refusal Nothing 0)
 drop_answer (p ∷ l) = Ok tt
 
 -- memory as the kind keeps it: exactly the records of what the list lays out
 abbrev pub Kept : {R : Type 0} → Kind R → Policy → List (records.Change R) → List Pair → Type 0
-Kept k b memory l = memory ≡ map (held k) (b.layout l)
+Kept k b memory l = memory ≡ map (change_record k) (b.layout l)

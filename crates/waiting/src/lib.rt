@@ -1,4 +1,4 @@
-// Waiting buffers: what waits to be sent, in memory that is lent to them.
+//! Waiting buffers: what waits to be sent, in memory that is lent to them.
 #![tactic(auto)]
 
 mod buffer;

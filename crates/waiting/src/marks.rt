@@ -1,4 +1,4 @@
-// Marks: one joined delta waits for a tap, and taps wait by rising number.
+//! Marks: one joined delta waits for a tap, and taps wait by rising number.
 ghost use Rattle.std.specs.Prelude.{◌≡◌, ◌+◌, ◌<◌, [], map, length, Ok, IfSome, MatchOption};
 ghost use Rattle.row.specs.Limits.{cell_limit, tap_limit};
 ghost use Rattle.row.specs.Records.{change_of};
@@ -13,7 +13,7 @@ use row::{
     CELL_LIMIT, Change, FIELD_LIMIT, Fault, Refusal, TAP_LIMIT, Tap, Value, all_same, blank,
 };
 
-// A row of the lent memory for each tap. A tap waits if its row has a change that is not same.
+/// A row of the lent memory for each tap. A tap waits if its row has a change that is not same.
 #[derive(Drop)]
 pub struct Marks<'a, R> {
     changes: &'a mut [Change<R>],

@@ -1,4 +1,4 @@
-// The queue: deltas wait in the order in which they were put.
+//! The queue: deltas wait in the order in which they were put.
 ghost use Rattle.std.specs.Prelude.{◌≡◌, ◌+◌, ◌≤◌, ◌<◌, true, length, remove};
 ghost use Rattle.std.specs.List.{list_all};
 ghost use Rattle.row.specs.Taps.{is_tap};
@@ -9,13 +9,13 @@ use crate::buffer::{Pair, Unfit, Waiting};
 use crate::rows::{copy_changes, remove_row, row, store_row};
 use row::{Change, FIELD_LIMIT, Fault, Refusal, Tap, Value, all_same, blank};
 
-// The pairs that may wait.
+/// The pairs that may wait.
 pub const PAIR_LIMIT: usize = 16;
 
-// The changes of a queue's memory.
+/// The changes of a queue's memory.
 pub const QUEUE_LIMIT: usize = PAIR_LIMIT * FIELD_LIMIT;
 
-// Up to `PAIR_LIMIT` pairs: the tap of each by its number, and its delta as a row of the lent memory.
+/// Up to `PAIR_LIMIT` pairs: the tap of each by its number, and its delta as a row of the lent memory.
 // kept: tap numbers and no `Tap`, since a struct that holds a `&mut` may be no type argument where a struct in it has an invariant
 #[derive(Drop)]
 pub struct Queue<'a, R: Value> {

@@ -1,7 +1,7 @@
-// The rows of twelve changes in a buffer's memory.
+//! The rows of twelve changes in a buffer's memory.
 ghost use Rattle.std.specs.Prelude.{◌≡◌, ◌+◌, ◌*◌, ◌≤◌, ◌<◌, ◌++◌, map, length, take, drop, replicate};
 ghost use Rattle.row.specs.Limits.{field_limit};
-ghost use Rattle.row.specs.Records.{canonical, held, later};
+ghost use Rattle.row.specs.Records.{canonical, change_record, later};
 ghost use Rattle.row.specs.Rows.{over, row_at, same, with_row};
 
 use row::{Change, FIELD_LIMIT, Value, blank, canonicalize, join_delta};
@@ -44,7 +44,7 @@ pub(crate) fn join_row<R: Value>(changes: &mut [Change<R>], i: usize, delta: &[C
 // Makes each change of a row same.
 pub(crate) fn clear_row<R: Value>(changes: &mut [Change<R>], i: usize)
     requires { field_limit * i + field_limit ≤ length changes.old }
-    ensures { changes.new ≡ with_row i (replicate field_limit (held R.kind same)) changes.old }
+    ensures { changes.new ≡ with_row i (replicate field_limit (change_record R.kind same)) changes.old }
 {
     let at = FIELD_LIMIT * i;
     blank(&mut changes[at..at + FIELD_LIMIT]);
@@ -53,7 +53,7 @@ pub(crate) fn clear_row<R: Value>(changes: &mut [Change<R>], i: usize)
 // Removes a row: those behind it move up, and the last one is same.
 pub(crate) fn remove_row<R: Value>(changes: &mut [Change<R>], i: usize)
     requires { field_limit * i + field_limit ≤ length changes.old }
-    ensures { changes.new ≡ take (field_limit * i) changes.old ++ (drop (field_limit * i + field_limit) changes.old ++ replicate field_limit (held R.kind same)) }
+    ensures { changes.new ≡ take (field_limit * i) changes.old ++ (drop (field_limit * i + field_limit) changes.old ++ replicate field_limit (change_record R.kind same)) }
 {
     changes[FIELD_LIMIT * i..].rotate_left(FIELD_LIMIT);
     let last = changes.len() - FIELD_LIMIT;

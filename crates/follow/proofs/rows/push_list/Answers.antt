@@ -1,7 +1,5 @@
-use Rattle.std.proofs.Common.{◌++◌, map, replicate, vec_items, refl, ap, ◌∙◌}
-use Rattle.std.proofs.lemmas.Bool.{cond-true}
+use Rattle.std.proofs.Common.{◌++◌, replicate, vec_items, refl, ap, ◌∙◌}
 use Rattle.row.specs.Limits.{field_limit}
-use Rattle.row.specs.Records.{rows_fit, wholly}
 use Rattle.row.proofs.Over.{rows_fit_lem}
 use Rattle.tlcp.specs.Bounds.{list_extended}
 use Rattle.tlcp.specs.Written.{list_limit}
@@ -14,6 +12,6 @@ returns g c =
     let row = c.args.row.now in
     let fields = c.args.fields in
     let same = replicate field_limit c.same-delta.result in
-    let whole = c.whole_row.ensures.changes ∙ cond-true (rows_fit row same) (map wholly row) same (rows_fit_lem row same c.requires refl) in
-    let list = c.put_list.ensures.text ∙ ap (λ s. list_extended k list_limit s c.whole_row.new.delta fields) c.new-list.ensures ∙ row-list k g.met.V.Value.lawful row fields c.whole_row.new.delta whole c.requires in
+    let means = c.whole_row.ensures.means (rows_fit_lem row same c.requires refl) in
+    let list = c.put_list.ensures.text ∙ ap (λ s. list_extended k list_limit s c.whole_row.new.delta fields) c.new-list.ensures ∙ row-list k g.met.V.Value.lawful row fields c.whole_row.new.delta means c.requires in
     c.in_ok-extend_from_slice.ensures.items ∙ ap (λ l. vec_items c.args.out.now ++ l) (c.text.ensures ∙ list)

@@ -5,7 +5,7 @@ use Rattle.tlcp.specs.Lists.{values}
 use Rattle.tlcp.specs.Parts.{before, behind}
 use Rattle.tlcp.proofs.Filling.{Sofar, none_left, all_read, not-all, next-refused, next_past, next-taken}
 use Rattle.tlcp.proofs.Dividing.{parts_of, divided-some, divided-split}
-use Rattle.tlcp.proofs.Moving.{moved-shifted}
+use Rattle.tlcp.proofs.Moving.{saturated-exact}
 use Rattle.tlcp.proofs.list.read_values.Given as given
 use Rattle.tlcp.proofs.list.read_values.Goals as goal
 use Rattle.tlcp.proofs.list.read_values.Goals.{After-split, Else-more-fields}
@@ -21,7 +21,7 @@ pub returns-in-Err-clause-answer : goal.returns-in-Err-clause-answer
 returns-in-Err-clause-answer g c =
     let refused = next-refused g.R.Value.kind _ _ _ _ _ _ _ (found g (goal.at.returns-in-Err-clause-answer g c).After-split _ refl) c.loop-covered-test.true c.in-Err.refusal c.in-Err.ensures.answer in
     let inside : length c.args.list.now - length c.loop-covered.left.now + c.in-Err.refusal.place ≤ length c.args.list.now = omega (arith, c.in-Err.ensures.within, c.split.ensures.within, c.loop-covered.invariant.0) in
-    ap Err (c.moved_by.ensures ∙ moved-shifted _ c.in-Err.refusal (omega (arith, inside))) ∙ sym (ap answer_of refused)
+    ap Err (c.moved_by.ensures ∙ saturated-exact _ c.in-Err.refusal (omega (arith, inside))) ∙ sym (ap answer_of refused)
 
 pub returns-then-more-fields-clause-answer : goal.returns-then-more-fields-clause-answer
 returns-then-more-fields-clause-answer g c =

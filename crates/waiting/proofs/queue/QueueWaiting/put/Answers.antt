@@ -2,7 +2,7 @@ use Rattle.std.proofs.Common.{◌≡◌, ◌+◌, ◌++◌, ◌∷◌, [], ◌&&
 use Rattle.std.proofs.lemmas.Bool.{and_from, cond-true, cond-false, eq-eqb, ltb-true}
 use Rattle.std.proofs.lemmas.List.{length-map}
 use Rattle.row.specs.Limits.{field_limit}
-use Rattle.row.specs.Records.{canonical, change_of, held}
+use Rattle.row.specs.Records.{canonical, change_of, change_record}
 use Rattle.row.specs.Rows.{all_same, with_row}
 use Rattle.row.specs.Taps.{is_tap}
 use Rattle.waiting.specs.Limits.{pair_limit}
@@ -59,7 +59,7 @@ returns-clause-kept g c = λ old.
     let d = map (change_of k) c.args.delta.now in
     let l = queued k q in
     let whole : length d ≡ field_limit = length-map c.args.delta.now (change_of k) ∙ omega arith in
-    let stored : c.store_row.new.changes ≡ with_row (length l) (map (held k) d) q.changes.now =
+    let stored : c.store_row.new.changes ≡ with_row (length l) (map (change_record k) d) q.changes.now =
     c.store_row.ensures ∙ (λ i. with_row (sym (length-taken k q.len q.taps q.changes.now (omega arith)) i) (canonical-map k c.args.delta.now i) q.changes.now) in
     let listed = queue-held k q.len q.taps q.changes.now q.few q.whole q.known q.busy in
     let next = kept-pushed k q.changes.now l listed old t d (ltb-true (length l) pair_limit (sym c.if-not-takes.ensures)) whole in
