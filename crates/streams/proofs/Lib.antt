@@ -3,3 +3,4 @@ pub mod Holding
 pub mod Fed
 pub mod Printing
 pub mod Known
+pub mod Long

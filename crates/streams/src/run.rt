@@ -49,7 +49,7 @@ pub fn answer_all<H: Hear, R: Read, W: Write>(
         }
         answer_block(&mut stream, &block[..n], &mut text, output)?;
     }
-    text.clear();
-    stream.finish(&mut text)?;
-    output.write_all(&text)
+    let mut last = Vec::new(rt.alloc());
+    stream.finish(&mut last)?;
+    output.write_all(&last)
 }

@@ -1,9 +1,10 @@
-use Rattle.std.proofs.Common.{◌≡◌, ◌++◌, ◌-◌, ◌^◌, ◌<◌, ◌≤◌, ◌⊎◌, List, ℕ, length, take, inl, inr, subst, sym, ap, ◌∙◌, rules, arith}
+use Rattle.std.proofs.Common.{◌++◌, ◌-◌, ◌^◌, ◌≤◌, ◌⊎◌, length, take, inl, inr, subst, sym, ap, ◌∙◌, rules, arith}
 use Rattle.std.proofs.lemmas.List.{length-append, length-take}
 use Rattle.std.proofs.lemmas.Result.{on_ok_weaker}
 use Rattle.std.specs.Io.KnownBytes.{Appends, IsAtEnd}
 use Rattle.streams.specs.Answers.{printed}
 use Rattle.streams.specs.Feeding.{fed, finished, fresh}
+use Rattle.streams.proofs.Fed.{cut-anywhere}
 use Rattle.streams.proofs.Known.{appends-more, at-end, consumes-more, seen-all}
 use Rattle.streams.proofs.Printing.{prints-lines}
 use Rattle.streams.proofs.run.answer_all.Goals as goal
@@ -16,7 +17,7 @@ loop-preserved g c =
     let start = fresh c.args.listener in
     let behind = fed g.H.Hear.LIMIT g.H.Hear.hearing in
     let held_on = ap (λ st. behind st part) so.state in
-    let step = c.new-stream.ensures.blocks start seen part in
+    let step = cut-anywhere g.H.Hear.LIMIT g.H.Hear.hearing start seen part in
     let one = c.in_ok-answer_block.ensures in
     (seen ++ part, record {
       turns = omega (arith, so.turns, so.block, length-append seen part, length-take c.in_ok-n.n c.read.new.buf, c.if-n-eq0.false, c.in_ok-n.ensures.bound);
@@ -40,7 +41,7 @@ returns g c =
         inl
         (at-end (g.R.Read.remaining c.loop.input) (g.R.Read.remaining w.read.new.self) _ (ap (λ n. take n w.read.new.buf) w.if-n-eq0.true) w.in_ok-n.ensures.bytes.0 (w.in_ok-n.ensures.bytes.1 w.if-n-eq0.true (omega (arith, so.block))))
     ] in
-    let text = c.deref.ensures.value ∙ c.in_ok-finish.ensures.1 ∙ (λ i. c.clear.ensures.items i ++ (last (so.state i)).text) in
+    let text = c.deref.ensures.value ∙ c.in_ok-finish.ensures.1 ∙ (λ i. c.new-last.ensures.items i ++ (last (so.state i)).text) in
     on_ok_weaker c.write_all.result
     (λ more.
       let more = subst (Appends (g.W.Write.contents c.loop.output) behind) text more in
