@@ -1,1 +1,2 @@
-pub mod RowLists
+pub mod RowTexts
+pub mod RowLines

@@ -7,8 +7,8 @@ use Rattle.row.specs.Rows.{same}
 use Rattle.tlcp.specs.Limits.{line_limit}
 use Rattle.viewer.specs.Hearing.{Outcome, heard}
 use Rattle.viewer.specs.Entries.{waiting}
-use Rattle.streams.specs.Feeding as streams
-use Rattle.streams.specs.Feeding.{Hearing}
+use Rattle.streams.specs.Answers as streams
+use Rattle.streams.specs.Answers.{Hearing}
 use Rattle.follow.specs.Answers.{answer_text, rows_text}
 use Rattle.follow.specs.declared.follower.Follower.{Follower}
 
@@ -25,7 +25,7 @@ module _ {R : Type 0} (k : Kind R) where
   heard_by o = record { viewer = record { entries = o.entries }; cells = o.cells; delta = o.delta }
 
   -- each line is answered, and at the end the open rows are printed
-  abbrev pub hearing : Hearing held_limit (Follower R)
+  abbrev pub hearing : Hearing (Follower R)
   hearing = record {
     next = λ f line. heard_by (outcome f line);
     answer = λ f line. answer_text (outcome f line).answer;

@@ -1,6 +1,7 @@
 //! A viewer of values of a kind, as the listener of a stream.
 ghost use Rattle.std.specs.Prelude.{◌≡◌};
 ghost use Rattle.follow.specs.Feeding.{held_limit, hearing, opened};
+ghost use Rattle.follow.specs.LongLines.{follower-enough};
 
 use crate::print::push_answer;
 use crate::rows::push_rows;
@@ -47,4 +48,6 @@ impl<V: Value> Hear for Follower<V> {
     fn close(&self, out: &mut Vec<u8>) -> Result<(), AllocError> {
         push_rows(out, &self.viewer, &self.cells)
     }
+
+    ghost enough = { follower-enough V.kind };
 }
