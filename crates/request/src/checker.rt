@@ -2,6 +2,7 @@
 ghost use Rattle.std.specs.Prelude.{◌≡◌};
 ghost use Rattle.request.specs.Feeding.{hearing};
 ghost use Rattle.request.specs.Limits.{held_limit};
+ghost use Rattle.request.specs.LongLines.{checker-enough};
 ghost use Rattle.request.specs.Same.{ShowsSame};
 ghost use Rattle.request.specs.Spelling.{ReadsSpelled};
 
@@ -40,4 +41,6 @@ impl Hear for Checker {
     fn close(&self, _out: &mut Vec<u8>) -> Result<(), AllocError> {
         Ok(())
     }
+
+    ghost enough = { checker-enough };
 }
