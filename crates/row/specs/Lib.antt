@@ -1,7 +1,9 @@
 pub mod Faults
+pub mod FaultNumbers
 pub mod Limits
 pub mod Taps
 pub mod Rows
+pub mod RowLaws
 pub mod Kinds
 pub mod Texts
 pub mod Logics

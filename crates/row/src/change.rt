@@ -1,24 +1,29 @@
 //! Cells and changes as memory holds them.
 ghost use Rattle.std.specs.Prelude.{◌≡◌, true, map, length, replicate, if◌then◌else◌};
-ghost use Rattle.row.specs.Records.{canonical, canonical_cell, cell_of, change_of, change_record, changed_cells, joined_changes, null_cell, is_same, takes, whole_changes, wholly, later, rows_fit, answer_if};
-ghost use Rattle.row.specs.Rows.{all_same, null, same, becomes, over, changed, join};
+ghost use Rattle.row.specs.Records.{canonical, canonical_cell, cell_of, cell_record, change_of, change_record, changed_cells, joined_changes, null_cell, is_same, takes, whole_changes, wholly, later, rows_fit, answer_if};
+ghost use Rattle.row.specs.RowLaws.{RowLaws};
+ghost use Rattle.row.specs.Rows.{all_same, null, value, same, becomes, over, changed, join};
 
 use crate::fault::Refusal;
 use crate::value::Value;
 
+/// The fields that a tap may have: the cells of its row, and the changes of a delta in memory.
 pub const FIELD_LIMIT: usize = 12;
 
 /// What a change does to its cell.
 #[derive(Clone, Copy, PartialEq, Debug)]
 pub enum Mark {
+    /// The cell stays as it is.
     Same,
+    /// The cell holds no value afterwards.
     Null,
+    /// The cell holds the value of the record beside the mark.
     Value,
 }
 
 /// A change of one field. Where it is same or null, `raw` is the kind's rest record.
-// Lent memory can hold any bytes, so a mark stands beside the record and not around it: each place, with a value or without,
-// has a record whose bytes are known.
+// Not an enum whose cases hold the record: memory that is lent has a record in each place, and a case without one could not
+// say what its bytes are.
 #[derive(Clone, Copy)]
 pub struct Change<R> {
     /// What the change does.
@@ -45,8 +50,18 @@ impl<R: Value> Cell<R> {
         Cell { null: true, raw }
     }
 
-    /// The cell by the record that memory holds for its meaning: the rest record where it is null, the rest value where its
-    /// record is not sound.
+    // The cell that holds what a record means.
+    fn holding(raw: R) -> Cell<R>
+        ensures { result ≡ cell_record R.kind (value (R.kind.text raw)) }
+    {
+        Cell {
+            null: false,
+            raw: raw.canonical(),
+        }
+    }
+
+    /// The cell by the record that memory holds for its meaning: the rest record where it is null,
+    /// the rest value's where its record is not sound.
     pub fn canonical(self) -> Cell<R>
         ensures record { result ≡ canonical_cell R.kind self }
         ensures means { cell_of R.kind result ≡ cell_of R.kind self }
@@ -54,10 +69,7 @@ impl<R: Value> Cell<R> {
         if self.null {
             return Cell::null();
         }
-        Cell {
-            null: false,
-            raw: self.raw.canonical(),
-        }
+        Cell::holding(self.raw)
     }
 
     /// The cell after a change, by the record of its meaning.
@@ -67,10 +79,7 @@ impl<R: Value> Cell<R> {
         match by.mark {
             Mark::Same => self.canonical(),
             Mark::Null => Cell::null(),
-            Mark::Value => Cell {
-                null: false,
-                raw: by.raw.canonical(),
-            },
+            Mark::Value => Cell::holding(by.raw),
         }
     }
 }
@@ -83,10 +92,7 @@ impl<R: Value> From<Cell<R>> for Change<R> {
         if cell.null {
             return Change::null();
         }
-        Change {
-            mark: Mark::Value,
-            raw: cell.raw.canonical(),
-        }
+        Change::setting(cell.raw)
     }
 }
 
@@ -111,6 +117,16 @@ impl<R: Value> Change<R> {
         }
     }
 
+    // The change that makes its cell hold what a record means.
+    fn setting(raw: R) -> Change<R>
+        ensures { result ≡ change_record R.kind (becomes (value (R.kind.text raw))) }
+    {
+        Change {
+            mark: Mark::Value,
+            raw: raw.canonical(),
+        }
+    }
+
     /// Whether it leaves its cell as it is.
     pub fn is_same(&self) -> bool
         ensures { result ≡ is_same self.now.mark }
@@ -118,8 +134,8 @@ impl<R: Value> Change<R> {
         self.mark == Mark::Same
     }
 
-    /// The change by the record that memory holds for its meaning: the rest record where it is same or null, the rest value
-    /// where its record is not sound.
+    /// The change by the record that memory holds for its meaning: the rest record where it is same
+    /// or null, the rest value's where its record is not sound.
     pub fn canonical(self) -> Change<R>
         ensures record { result ≡ canonical R.kind self }
         ensures means { change_of R.kind result ≡ change_of R.kind self }
@@ -127,10 +143,7 @@ impl<R: Value> Change<R> {
         match self.mark {
             Mark::Same => Change::same(),
             Mark::Null => Change::null(),
-            Mark::Value => Change {
-                mark: Mark::Value,
-                raw: self.raw.canonical(),
-            },
+            Mark::Value => Change::setting(self.raw),
         }
     }
 
@@ -185,14 +198,14 @@ fn step_all<X: Step<By>, By: Copy>(places: &mut [X], by: &[By]) -> Result<(), Re
     if places.len() != FIELD_LIMIT || by.len() != FIELD_LIMIT {
         return Err(Refusal::MEMORY);
     }
-    // kept: with `iter_mut().zip(by)` nothing is known of the elements
+    // By its index, since of the elements of `iter_mut().zip(by)` the contracts of std say nothing.
     for (i, place) in places.iter_mut().enumerate() {
         place.step(&by[i]);
     }
     Ok(())
 }
 
-// kept: the library's `fill` wants a `clone` that cannot fail, which `Copy` does not say
+// As `slice::fill`, whose `clone` might fail where the type is only known to be `Copy`.
 fn fill<X: Copy>(places: &mut [X], x: X)
     ensures { places.new ≡ replicate (length places.old) x }
 {
@@ -201,21 +214,21 @@ fn fill<X: Copy>(places: &mut [X], x: X)
     }
 }
 
-/// Makes every change same.
+/// Makes every change same, with the rest record beside it. Any number of changes.
 pub fn blank<R: Value>(delta: &mut [Change<R>])
     ensures { delta.new ≡ replicate (length delta.old) (change_record R.kind same) }
 {
     fill(delta, Change::same());
 }
 
-/// Makes every cell null.
+/// Makes every cell null, with the rest record beside it. Any number of cells.
 pub fn nullify<R: Value>(row: &mut [Cell<R>])
     ensures { row.new ≡ replicate (length row.old) (null_cell R.kind) }
 {
     fill(row, Cell::null());
 }
 
-/// Makes each change hold the record of its meaning.
+/// Makes each change hold the record of its meaning, and mean what it did. Any number of changes.
 pub fn canonicalize<R: Value>(delta: &mut [Change<R>])
     ensures changes { delta.new ≡ map (canonical R.kind) delta.old }
     ensures means { map (change_of R.kind) delta.new ≡ map (change_of R.kind) delta.old }
@@ -225,11 +238,11 @@ pub fn canonicalize<R: Value>(delta: &mut [Change<R>])
     }
 }
 
-/// Whether a delta leaves each cell as it is.
+/// Whether a delta leaves each cell as it is. Any number of changes; of none it is so.
 pub fn all_same<R: Value>(delta: &[Change<R>]) -> bool
     ensures { result ≡ all_same (map (change_of R.kind) delta.now) }
 {
-    // kept: of `iter().all` over a generic type nothing is known of the elements
+    // A loop, since of the elements of a generic type `iter().all` promises nothing.
     for change in delta {
         if !change.is_same() {
             return false;
@@ -238,32 +251,52 @@ pub fn all_same<R: Value>(delta: &[Change<R>]) -> bool
     true
 }
 
-/// Changes a row by a delta, each of twelve places. Every cell then holds the record of its meaning, whatever record stood
-/// there. Refused with 1, and nothing touched, where either has another length.
+/// Changes a row by a delta, each of twelve places. Every cell then holds the record of its meaning,
+/// whatever record stood there. Refused with 1, and nothing touched, where either has another length.
 pub fn change_row<R: Value>(row: &mut [Cell<R>], delta: &[Change<R>]) -> Result<(), Refusal>
     ensures answer { result ≡ answer_if (rows_fit row.old delta.now) }
-    ensures cells { row.new ≡ (if rows_fit row.old delta.now then changed_cells R.kind row.old delta.now else row.old) }
-    ensures means { map (cell_of R.kind) row.new ≡ (if rows_fit row.old delta.now then changed (map (cell_of R.kind) row.old) (map (change_of R.kind) delta.now) else map (cell_of R.kind) row.old) }
+    ensures cells { row.new ≡ (if rows_fit row.old delta.now
+        then changed_cells R.kind row.old delta.now
+        else row.old) }
+    ensures means { map (cell_of R.kind) row.new ≡ (if rows_fit row.old delta.now
+        then changed (map (cell_of R.kind) row.old) (map (change_of R.kind) delta.now)
+        else map (cell_of R.kind) row.old) }
 {
     step_all(row, delta)
 }
 
-/// Joins a later delta to an earlier one, in place of the earlier, each of twelve changes. Every change of it then holds the
-/// record of its meaning. Refused with 1, and nothing touched, where either has another length.
+/// Joins a later delta to an earlier one, in place of the earlier, each of twelve changes. Every
+/// change of it then holds the record of its meaning. Refused with 1, and nothing touched, where
+/// either has another length.
 pub fn join_delta<R: Value>(earlier: &mut [Change<R>], next: &[Change<R>]) -> Result<(), Refusal>
     ensures answer { result ≡ answer_if (rows_fit earlier.old next.now) }
-    ensures changes { earlier.new ≡ (if rows_fit earlier.old next.now then joined_changes R.kind earlier.old next.now else earlier.old) }
-    ensures means { map (change_of R.kind) earlier.new ≡ (if rows_fit earlier.old next.now then join (map (change_of R.kind) earlier.old) (map (change_of R.kind) next.now) else map (change_of R.kind) earlier.old) }
+    ensures changes { earlier.new ≡ (if rows_fit earlier.old next.now
+        then joined_changes R.kind earlier.old next.now
+        else earlier.old) }
+    ensures means { map (change_of R.kind) earlier.new ≡ (if rows_fit earlier.old next.now
+        then join (map (change_of R.kind) earlier.old) (map (change_of R.kind) next.now)
+        else map (change_of R.kind) earlier.old) }
 {
     step_all(earlier, next)
 }
 
-/// Makes a delta of a whole row, each of twelve places: every change null or a value, by the record of its meaning. Refused
-/// with 1, and nothing touched, where either has another length.
+/// Makes a delta of a whole row, each of twelve places: every change null or a value, by the record
+/// of its meaning. Refused with 1, and nothing touched, where either has another length.
 pub fn whole_row<R: Value>(row: &[Cell<R>], delta: &mut [Change<R>]) -> Result<(), Refusal>
     ensures answer { result ≡ answer_if (rows_fit row.now delta.old) }
-    ensures changes { delta.new ≡ (if rows_fit row.now delta.old then whole_changes R.kind row.now else delta.old) }
-    ensures means { rows_fit row.now delta.old ≡ true → map (change_of R.kind) delta.new ≡ map becomes (map (cell_of R.kind) row.now) }
+    ensures changes { delta.new ≡ (if rows_fit row.now delta.old
+        then whole_changes R.kind row.now
+        else delta.old) }
+    ensures means { rows_fit row.now delta.old ≡ true
+        → map (change_of R.kind) delta.new ≡ map becomes (map (cell_of R.kind) row.now) }
 {
     step_all(delta, row)
 }
+
+/// What changing a row and joining deltas do, field by field: a cell stays where the change is same,
+/// is null after null and has the value after a value; the join keeps the later change; a row changed
+/// by a join is the row changed by the one delta and then by the other. Nothing to run: the contract
+/// says it.
+pub fn rows_keep_their_laws()
+    ensures { RowLaws }
+{}

@@ -1,9 +1,11 @@
 //! Why a text, a line or a call is refused.
 ghost use Rattle.std.specs.Prelude.{◌≡◌, ◌∷◌, ◌++◌, decimal, Some};
+ghost use Rattle.row.specs.FaultNumbers.{FaultNumbers};
 ghost use Rattle.row.specs.Faults.{moved, number_of, printed, refusal, saturated};
 
 use std::fmt;
 
+/// What is wrong, by the number under which it is known: 1 to 16.
 #[derive(Clone, Copy, PartialEq, Debug)]
 pub enum Fault {
     /// lent memory is not of its stated length
@@ -58,15 +60,18 @@ impl Fault {
     }
 }
 
-/// A fault and its place: an offset in the text for faults 2 to 8, otherwise 0.
-// kept: 0 and no Option where there is no place, since the protocol's refusals are two numbers
+/// A refusal: a fault and its place, an offset in bytes from 0 in the text for faults 2 to 8, otherwise 0.
+// Always two numbers, so that programs print both and tests compare both; 0 stands where a fault has no place.
 #[derive(Clone, Copy, PartialEq, Debug)]
 pub struct Refusal {
+    /// What is wrong.
     pub fault: Fault,
+    /// Where it is wrong.
     pub place: usize,
 }
 
 impl Refusal {
+    /// Lent memory is not of its stated length.
     pub const MEMORY: Refusal = Refusal {
         fault: Fault::Memory,
         place: 0,
@@ -91,3 +96,8 @@ impl fmt::Display for Refusal {
         write!(f, "{} {}", u8::from(self.fault), self.place)
     }
 }
+
+/// The number of each fault, from 1 to 16. Nothing to run: the contract says it.
+pub fn faults_have_numbers()
+    ensures { FaultNumbers }
+{}

@@ -1,4 +1,5 @@
-//! Rows of fields: cells, changes and their joining, taps, the kinds of value, and the numbered refusals.
+//! Rows of fields: cells, changes and their joining, taps, the kinds of value, and the numbered
+//! refusals.
 #![tactic(auto)]
 
 mod change;
@@ -10,9 +11,9 @@ mod value;
 
 pub use change::{
     Cell, Change, FIELD_LIMIT, Mark, all_same, blank, canonicalize, change_row, join_delta,
-    nullify, whole_row,
+    nullify, rows_keep_their_laws, whole_row,
 };
-pub use fault::{Fault, Refusal};
+pub use fault::{Fault, Refusal, faults_have_numbers};
 pub use logic::{Logic, LogicRecord};
 pub use tap::{CELL_LIMIT, TAP_LIMIT, Tap};
 pub use text::{TEXT_LIMIT, Text, TextRecord};

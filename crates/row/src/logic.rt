@@ -10,12 +10,15 @@ ghost use Rattle.row.specs.LogicsLemmas.{logic-lawful};
 use crate::text::TEXT_LIMIT;
 use crate::value::Value;
 
-/// A logic value as memory holds it. Nothing is known of it.
-// kept: words with a width beside are the plain record of lent memory, by the project's rule
+/// A logic value as memory holds it: the words and the width, 1 to 32. Nothing is known of a record,
+/// since lent memory can hold any; one that is not sound means the rest value, one low bit.
 #[derive(Clone, Copy, PartialEq, Debug)]
 pub struct LogicRecord {
+    /// The low word of each bit's pair, the highest bit first: set for `1` and `x`.
     pub a: u32,
+    /// The high word of each bit's pair: set for `z` and `x`.
     pub b: u32,
+    /// The number of bits.
     pub width: u8,
 }
 
@@ -28,7 +31,7 @@ pub struct Logic {
 }
 
 // A character's bits in the two words.
-// kept: a pair of numbers, since the words are shifted by them; an enum would be turned into these and back
+// A pair of numbers, since they are added to the words; an enum would be turned into these and back.
 fn bits_of(character: u8) -> Option<(u32, u32)>
     ensures { result ≡ (if is_logic character then Some (bit_a character, bit_b character) else None) }
 {
@@ -82,7 +85,6 @@ impl Logic {
     }
 
     /// The value with this text, if there is one.
-    // kept: an Option says all there is; TryFrom would want an error that says no more
     pub fn new(text: &[u8]) -> Option<Logic>
         ensures { option_map (λ l. l.held) result ≡ (if logic_allowed text.now then Some (logic_record text.now) else None) }
     {
@@ -105,7 +107,6 @@ impl Logic {
     }
 
     /// The value that a record holds, if it is sound.
-    // kept: an Option, as of `new`
     pub fn check(held: LogicRecord) -> Option<Logic>
         ensures { option_map (λ l. l.held) result ≡ (if logic_sound held then Some held else None) }
     {
@@ -133,7 +134,7 @@ impl Logic {
     {
         let LogicRecord { a, b, width } = self.held;
         *out = [0; TEXT_LIMIT];
-        // kept: from the highest bit; with `iter_mut()` over the first places nothing is known of the elements behind
+        // By index, from the highest bit: std's contracts say nothing of the places behind those that `iter_mut().take(..)` visits.
         for i in 0..width {
             let place = width - 1 - i;
             out[i as usize] = char_of(bit_at(a, place), bit_at(b, place));

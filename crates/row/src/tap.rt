@@ -6,6 +6,7 @@ ghost use Rattle.row.specs.Taps.{is_tap, tap_numbered};
 use crate::change::FIELD_LIMIT;
 use crate::fault::{Fault, Refusal};
 
+/// The taps.
 pub const TAP_LIMIT: usize = 8;
 
 /// A place for each field of each tap.
@@ -18,6 +19,7 @@ pub struct Tap {
     ghost known: { is_tap number ≡ true },
 }
 
+/// Refused with 10 where the number is no tap's.
 impl TryFrom<usize> for Tap {
     type Error = Refusal;
 
@@ -32,6 +34,7 @@ impl TryFrom<usize> for Tap {
 }
 
 impl Tap {
+    /// The tap's number, from 1 to `TAP_LIMIT`.
     pub fn number(self) -> usize
         ensures { result ≡ self.number }
     {

@@ -5,13 +5,16 @@ ghost use Rattle.row.specs.Kinds.{rest_record};
 ghost use Rattle.row.specs.Limits.{text_limit};
 ghost use Rattle.row.specs.Texts.{every, is_zero, padded, text_allowed, text_kind, text_of, text_sound, text_record};
 
+/// The bytes of a value's text, at most.
 pub const TEXT_LIMIT: usize = 32;
 
-/// A text as memory holds it. Nothing is known of it.
-// kept: bytes with a length beside are the plain record of lent memory, by the project's rule
+/// A text as memory holds it: the bytes, and how many of them count, 0 to 32. Nothing is known of a
+/// record, since lent memory can hold any; one that is not sound means the rest value, the empty text.
 #[derive(Clone, Copy, PartialEq, Debug)]
 pub struct TextRecord {
+    /// The bytes, zero behind the text.
     pub bytes: [u8; TEXT_LIMIT],
+    /// How many of them are the text's.
     pub len: u8,
 }
 
@@ -49,7 +52,6 @@ impl Text {
     }
 
     /// The text with these bytes, if they are not too many.
-    // kept: an Option says all there is; TryFrom would want an error that says no more
     pub fn new(text: &[u8]) -> Option<Text>
         ensures { option_map (λ t. t.held) result ≡ (if text_allowed text.now then Some (text_record text.now) else None) }
     {
@@ -66,7 +68,6 @@ impl Text {
     }
 
     /// The value that a record holds, if it is sound.
-    // kept: an Option, as of `new`
     pub fn check(held: TextRecord) -> Option<Text>
         ensures { option_map (λ t. t.held) result ≡ (if text_sound held then Some held else None) }
     {

@@ -1,4 +1,4 @@
-//! A kind of value, by the plain records that stand for its values in memory.
+//! Kinds of value.
 ghost use Rattle.std.specs.Prelude.{◌≡◌, ℕ, length, if◌then◌else◌, Some, None};
 ghost use Rattle.row.specs.Kinds.{Kind, Lawful, Represents, rest_record};
 ghost use Rattle.row.specs.Limits.{text_limit};
@@ -8,6 +8,7 @@ ghost use Rattle.row.specs.Every.{text-lawful};
 
 use crate::text::{TEXT_LIMIT, Text, TextRecord};
 
+/// A kind of value, implemented by the plain record that stands for its values in lent memory.
 pub trait Value: Copy {
     ghost kind: { Kind Self };
 
@@ -31,7 +32,6 @@ pub trait Value: Copy {
     ghost lawful: { Lawful kind };
 }
 
-// kept: as of `LogicRecord`, a line or two each; a trait over the checked types would be longer than both
 impl Value for TextRecord {
     ghost kind = { text_kind };
 
