@@ -1,2 +1,3 @@
 pub mod RowTexts
 pub mod RowLines
+pub mod RowReading

@@ -31,7 +31,7 @@ module _ {R : Type 0} (k : Kind R) (law : Lawful k) (id : ℕ) (row : List (Cell
   abbrev out : List ℕ
   out = replicate line_limit 0
 
-  whole : length delta ≡ field_limit
+  pub whole : length delta ≡ field_limit
   whole = length-map (map becomes (map (cell_of k) row)) (change_record k) ∙ length-map (map (cell_of k) row) becomes ∙ length-map row (cell_of k) ∙ long
 
   abbrev line : List ℕ
