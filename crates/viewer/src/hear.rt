@@ -1,9 +1,11 @@
 //! A viewer: hears lines, and keeps the rows of subscribed taps.
-ghost use Rattle.std.specs.Prelude.{◌≡◌, map, length};
+ghost use Rattle.std.specs.Prelude.{◌≡◌, map, length, Ok};
 ghost use Rattle.row.specs.Limits.{field_limit, tap_limit, cell_limit};
+ghost use Rattle.row.specs.Records.{cell_of};
 ghost use Rattle.tlcp.specs.Said.{arguments_in, piece_in, tag_in};
 ghost use Rattle.viewer.specs.Entries.{find_entry, find_open, fits, waiting};
-ghost use Rattle.viewer.specs.Hearing.{effect_of, set_entry, update, hear_effect, heard, outcome};
+ghost use Rattle.viewer.specs.Effects.{effect_of};
+ghost use Rattle.viewer.specs.Hearing.{set_entry, update, hear_effect, heard, in_memory, outcome};
 
 use crate::entry::{Entry, find_entry, find_open};
 use crate::rows::{clear_row, update_row};
@@ -52,7 +54,7 @@ impl Viewer {
         delta: &mut [Change<R>],
     ) -> Result<Heard, Refusal>
         requires { (length cells.old ≡ cell_limit) × (length delta.old ≡ field_limit) }
-        ensures { outcome self.new.entries cells.new delta.new result ≡ set_entry R.kind self.old.entries cells.old entry (find_entry (fits id) self.old.entries) }
+        ensures { outcome self.new.entries cells.new delta.new result ≡ in_memory R.kind self.old.entries cells.old (Ok (set_entry self.old.entries (map (cell_of R.kind) cells.old) entry (find_entry (fits id) self.old.entries))) }
     {
         blank(delta);
         let Some(i) = find_entry(&self.entries, id) else {
@@ -72,7 +74,7 @@ impl Viewer {
         delta: &mut [Change<R>],
     ) -> Result<Heard, Refusal>
         requires { (length cells.old ≡ cell_limit) × (length delta.old ≡ field_limit) }
-        ensures { outcome self.now.entries cells.new delta.new result ≡ update R.kind self.now.entries cells.old (piece_in values.entry) (find_open id self.now.entries) }
+        ensures { outcome self.now.entries cells.new delta.new result ≡ in_memory R.kind self.now.entries cells.old (update self.now.entries (map (cell_of R.kind) cells.old) R.kind.allowed (piece_in values.entry) (find_open id self.now.entries)) }
     {
         let Some((i, fields)) = find_open(&self.entries, id) else {
             blank(delta);
@@ -91,7 +93,7 @@ impl Viewer {
         delta: &mut [Change<R>],
     ) -> Result<Heard, Refusal>
         requires { (length cells.old ≡ cell_limit) × (length delta.old ≡ field_limit) }
-        ensures { outcome self.new.entries cells.new delta.new result ≡ hear_effect R.kind self.old.entries cells.old (effect_of (tag_in says.entry) (arguments_in says.entry)) }
+        ensures { outcome self.new.entries cells.new delta.new result ≡ in_memory R.kind self.old.entries cells.old (hear_effect self.old.entries (map (cell_of R.kind) cells.old) R.kind.allowed (effect_of (tag_in says.entry) (arguments_in says.entry))) }
     {
         match says {
             Notification::Subok {
