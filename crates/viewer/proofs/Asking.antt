@@ -9,7 +9,7 @@ use Rattle.tlcp.specs.declared.tag.Tag.TheVariants.{U, Probe, Sync, Loop, Cons, 
 use Rattle.tlcp.proofs.Saying.{reads-said}
 use Rattle.tlcp.proofs.Unescaped.{reads-escapes}
 use Rattle.viewer.specs.Effects.{Effect, opens, closes, updates, nothing, effect_of}
-use Rattle.viewer.specs.Laws.{Asks, subok, unsub, update, other, AsksOne}
+use Rattle.viewer.specs.Laws.{Asks, message, subok, unsub, update, other, AsksOne}
 
 -- each argument is of its sort
 abbrev AllKept : List Sort → List Argument → Type 0
@@ -83,7 +83,10 @@ next-from k ks (a ∷ args) kept = (a, args, refl, kept.0, kept.1)
 -- what a line asks, by its tag and arguments
 module _ (line : List ℕ) (name : Piece) (args : List Argument) where
   abbrev SaysThis : Tag → List Argument → Type 0
-  SaysThis t xs = Says line (record { tag = t; name = name; args = xs })
+  SaysThis t xs = Says line (message t name xs)
+
+  says-as : (t : Tag) (xs : List Argument) → SaysThis t args → args ≡ xs → SaysThis t xs
+  says-as t xs says is = subst (SaysThis t) is says
 
   idle : (t : Tag) → t ≢ Subok → t ≢ Unsub → t ≢ U → SaysThis t args → (asked : Effect) × Asks line asked
   idle t a b c says = (nothing, other says a b c)
@@ -96,13 +99,11 @@ module _ (line : List ℕ) (name : Piece) (args : List Argument) where
       let (p, id, a-is) = number-from 1 id_limit a first in
       let (q, items, b-is) = number-from 1 1 b second in
       let (r, n, c-is) = number-from 1 field_limit c third in
-      let whole : args ≡ numbered p id ∷ numbered q items ∷ numbered r n ∷ [] = cc in
-      (opens id n, subok (subst (SaysThis Subok) whole says))
+      (opens id n, subok (says-as Subok (numbered p id ∷ numbered q items ∷ numbered r n ∷ []) says (cc)))
   asks-by Unsub says kept =
       let (a, is, first) = one-from line_id args kept in
       let (p, id, a-is) = number-from 1 id_limit a first in
-      let whole : args ≡ numbered p id ∷ [] = cc in
-      (closes id, unsub (subst (SaysThis Unsub) whole says))
+      (closes id, unsub (says-as Unsub (numbered p id ∷ []) says (cc)))
   asks-by U says kept =
       let (a, xs, is, first, kept) = next-from line_id (single ∷ list ∷ []) args kept in
       let (b, ys, is', second, kept) = next-from single (list ∷ []) xs kept in
@@ -110,8 +111,7 @@ module _ (line : List ℕ) (name : Piece) (args : List Argument) where
       let (p, id, a-is) = number-from 1 id_limit a first in
       let (q, item, b-is) = number-from 1 1 b second in
       let (r, c-is) = list-from c third in
-      let whole : args ≡ numbered p id ∷ numbered q item ∷ listed r ∷ [] = cc in
-      (updates id r, update (subst (SaysThis U) whole says))
+      (updates id r, update (says-as U (numbered p id ∷ numbered q item ∷ listed r ∷ []) says (cc)))
   asks-by Probe says kept = idle Probe (λ e. cc) (λ e. cc) (λ e. cc) says
   asks-by Sync says kept = idle Sync (λ e. cc) (λ e. cc) (λ e. cc) says
   asks-by Loop says kept = idle Loop (λ e. cc) (λ e. cc) (λ e. cc) says

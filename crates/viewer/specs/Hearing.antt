@@ -100,6 +100,10 @@ abbrev pub brought_by : Result View Refusal → List Change
 brought_by (Ok v) = v.brought
 brought_by (Err r) = blank
 
+abbrev pub answered : Result View Refusal → Result Heard Refusal
+answered (Ok v) = Ok v.answer
+answered (Err r) = Err r
+
 module _ (allowed : List ℕ → Bool) where
   -- the entries and cells after one line more
   abbrev pub after_line : List Entry × List Cell → List ℕ → List Entry × List Cell
@@ -153,3 +157,18 @@ module _ {R : Type 0} (k : Kind R) where
       cond (fitting cs delta)
       (in_memory es cs (hear k.allowed es (map (cell_of k) cs) line))
       (outcome es cs delta (Err memory_refusal))
+
+  -- what memory held in texts, and what a line makes of these
+  abbrev told : List Entry → List (cells.Cell R) → List ℕ → Result View Refusal
+  told es cs line = hear k.allowed es (map (cell_of k) cs) line
+
+  -- memory means what hearing makes of the texts that it meant
+  pub record MeansHeard (es : List Entry) (cs : List (cells.Cell R)) (line : List ℕ) (o : Outcome R) : Type 0 where
+    pub entries : o.entries ≡ entries_after es (told es cs line)
+    pub cells : map (cell_of k) o.cells ≡ cells_after (map (cell_of k) cs) (told es cs line)
+    pub delta : map (change_of k) o.delta ≡ brought_by (told es cs line)
+    pub answer : o.answer ≡ answered (told es cs line)
+
+  -- where each cell held the record of its meaning, it does so afterwards
+  abbrev pub StaysCanonical : List (cells.Cell R) → List (cells.Cell R) → Type 0
+  StaysCanonical old new = map (canonical_cell k) old ≡ old → map (canonical_cell k) new ≡ new
