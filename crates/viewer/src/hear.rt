@@ -1,9 +1,11 @@
 //! A viewer: hears lines, and keeps the rows of subscribed taps.
-ghost use Rattle.std.specs.Prelude.{◌≡◌, map, length};
+ghost use Rattle.std.specs.Prelude.{◌≡◌, true, map, length, Ok, OnErr};
 ghost use Rattle.row.specs.Limits.{field_limit, tap_limit, cell_limit};
+ghost use Rattle.row.specs.Records.{cell_of};
 ghost use Rattle.tlcp.specs.Said.{arguments_in, piece_in, tag_in};
 ghost use Rattle.viewer.specs.Entries.{find_entry, find_open, fits, waiting};
-ghost use Rattle.viewer.specs.Hearing.{effect_of, set_entry, update, hear_effect, heard, outcome};
+ghost use Rattle.viewer.specs.Effects.{effect_of};
+ghost use Rattle.viewer.specs.Hearing.{set_entry, update, hear_effect, hear, heard, in_memory, outcome, fitting, MeansHeard, StaysCanonical};
 
 use crate::entry::{Entry, find_entry, find_open};
 use crate::rows::{clear_row, update_row};
@@ -52,7 +54,7 @@ impl Viewer {
         delta: &mut [Change<R>],
     ) -> Result<Heard, Refusal>
         requires { (length cells.old ≡ cell_limit) × (length delta.old ≡ field_limit) }
-        ensures { outcome self.new.entries cells.new delta.new result ≡ set_entry R.kind self.old.entries cells.old entry (find_entry (fits id) self.old.entries) }
+        ensures { outcome self.new.entries cells.new delta.new result ≡ in_memory R.kind self.old.entries cells.old (Ok (set_entry self.old.entries (map (cell_of R.kind) cells.old) entry (find_entry (fits id) self.old.entries))) }
     {
         blank(delta);
         let Some(i) = find_entry(&self.entries, id) else {
@@ -72,7 +74,7 @@ impl Viewer {
         delta: &mut [Change<R>],
     ) -> Result<Heard, Refusal>
         requires { (length cells.old ≡ cell_limit) × (length delta.old ≡ field_limit) }
-        ensures { outcome self.now.entries cells.new delta.new result ≡ update R.kind self.now.entries cells.old (piece_in values.entry) (find_open id self.now.entries) }
+        ensures { outcome self.now.entries cells.new delta.new result ≡ in_memory R.kind self.now.entries cells.old (update self.now.entries (map (cell_of R.kind) cells.old) R.kind.allowed (piece_in values.entry) (find_open id self.now.entries)) }
     {
         let Some((i, fields)) = find_open(&self.entries, id) else {
             blank(delta);
@@ -91,7 +93,7 @@ impl Viewer {
         delta: &mut [Change<R>],
     ) -> Result<Heard, Refusal>
         requires { (length cells.old ≡ cell_limit) × (length delta.old ≡ field_limit) }
-        ensures { outcome self.new.entries cells.new delta.new result ≡ hear_effect R.kind self.old.entries cells.old (effect_of (tag_in says.entry) (arguments_in says.entry)) }
+        ensures { outcome self.new.entries cells.new delta.new result ≡ in_memory R.kind self.old.entries cells.old (hear_effect self.old.entries (map (cell_of R.kind) cells.old) R.kind.allowed (effect_of (tag_in says.entry) (arguments_in says.entry))) }
     {
         match says {
             Notification::Subok {
@@ -118,6 +120,24 @@ impl Viewer {
         }
     }
 
+    // Hears a line in memory that fits.
+    fn hear_line<R: Value>(
+        &mut self,
+        line: &[u8],
+        cells: &mut [Cell<R>],
+        delta: &mut [Change<R>],
+    ) -> Result<Heard, Refusal>
+        requires { (length cells.old ≡ cell_limit) × (length delta.old ≡ field_limit) }
+        ensures { outcome self.new.entries cells.new delta.new result ≡ in_memory R.kind self.old.entries cells.old (hear R.kind.allowed self.old.entries (map (cell_of R.kind) cells.old) line.now) }
+    {
+        let read = read_line(line);
+        // not before each line: `follow` would take a tenth longer
+        if read.is_err() {
+            blank(delta);
+        }
+        self.obey(read?.says, cells, delta)
+    }
+
     /// Hears a line, given without its end. The changes then hold what an update brought, otherwise twelve same.
     pub fn hear<R: Value>(
         &mut self,
@@ -129,15 +149,13 @@ impl Viewer {
         ensures cells { cells.new ≡ (heard R.kind self.old.entries cells.old delta.old line.now).cells }
         ensures changes { delta.new ≡ (heard R.kind self.old.entries cells.old delta.old line.now).delta }
         ensures answer { result ≡ (heard R.kind self.old.entries cells.old delta.old line.now).answer }
+        ensures means { fitting R.kind cells.old delta.old ≡ true → MeansHeard R.kind self.old.entries cells.old line.now (outcome self.new.entries cells.new delta.new result) }
+        ensures canonical { StaysCanonical R.kind cells.old cells.new }
+        ensures refused { OnErr result ((self.new.entries ≡ self.old.entries) × (cells.new ≡ cells.old)) }
     {
         if cells.len() != CELL_LIMIT || delta.len() != FIELD_LIMIT {
             return Err(Refusal::MEMORY);
         }
-        let read = read_line(line);
-        // not before each line: `follow` would take a tenth longer
-        if read.is_err() {
-            blank(delta);
-        }
-        self.obey(read?.says, cells, delta)
+        self.hear_line(line, cells, delta)
     }
 }
