@@ -1,3 +1,4 @@
 pub mod RowTexts
 pub mod RowLines
 pub mod RowReading
+pub mod RowHearing

@@ -19,11 +19,11 @@ use Rattle.follow.specs.Answers.{row_update}
 use Rattle.follow.specs.PrintedRows.{PrintedWhole, Row, fields_of}
 use Rattle.follow.proofs.RowLines.{whole}
 
-module _ {R : Type 0} (k : Kind R) (law : Lawful k) (id n : ℕ) (row : List (records.Cell R)) (h : Row k id n row) where
-  -- a number within its limits
-  number-within : (low high m : ℕ) → low ≤ m → m ≤ high → is_within (lines.number low high) (number m) ≡ true
-  number-within low high m l u = and_from _ _ (le-leb low m l) (le-leb m high u)
+-- a number within its limits
+pub number-within : (low high m : ℕ) → low ≤ m → m ≤ high → is_within (lines.number low high) (number m) ≡ true
+number-within low high m l u = and_from _ _ (le-leb low m l) (le-leb m high u)
 
+module _ {R : Type 0} (k : Kind R) (law : Lawful k) (id n : ℕ) (row : List (records.Cell R)) (h : Row k id n row) where
   in_limits : within (row_update k id row n) ≡ true
   in_limits = and_from _ _ (number-within 1 id_limit id h.low h.high) refl
 

@@ -4,6 +4,7 @@
 ghost use Rattle.std.specs.Prelude.{◌+◌, ◌^◌, ◌<◌, length, IfSome, OnOk};
 ghost use Rattle.std.specs.Io.KnownBytes.{Appends};
 ghost use Rattle.follow.specs.Feeding.{printed};
+ghost use Rattle.follow.specs.PrintedRows.{PrintsWhole, RowsHeard};
 
 mod follower;
 mod kind;
@@ -40,7 +41,9 @@ pub fn follow<V: Value, R: Read, W: Write>(
     input: &mut R,
     output: &mut W,
 ) -> io::Result<()>
-    ensures { OnOk result (IfSome (R.remaining input.old) (λ s. length s + 1 < 2 ^ 64 → Appends (W.contents output.old) (W.contents output.new) (printed V.kind follower s))) }
+    ensures rows { PrintsWhole V.kind }
+    ensures heard { RowsHeard V.kind }
+    ensures printed { OnOk result (IfSome (R.remaining input.old) (λ s. length s + 1 < 2 ^ 64 → Appends (W.contents output.old) (W.contents output.new) (printed V.kind follower s))) }
 {
     answer_all(rt, follower, input, output)
 }
