@@ -43,3 +43,7 @@ module _ {R : Type 0} (k : Kind R) where
   -- all that a follower prints of an input
   abbrev pub printed : Follower R → List ℕ → List ℕ
   printed = streams.printed hearing
+
+  -- all that a follower prints of the first bytes of an input, before its end
+  abbrev pub printed_so_far : Follower R → List ℕ → List ℕ
+  printed_so_far = streams.printed_so_far hearing

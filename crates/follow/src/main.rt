@@ -1,9 +1,10 @@
 //! Hears a TLCP stream on standard input, says what came of each line, and prints the open rows at the end.
 #![tactic(auto)]
 
-ghost use Rattle.std.specs.Prelude.{◌+◌, ◌^◌, ◌<◌, length, IfSome, OnOk};
-ghost use Rattle.std.specs.Io.KnownBytes.{Appends};
-ghost use Rattle.follow.specs.Feeding.{printed};
+ghost use Rattle.std.specs.Prelude.{ℕ, List, ◌+◌, ◌^◌, ◌<◌, length, IfSome, OnOk};
+ghost use Rattle.std.specs.Io.KnownBytes.{Appends, Consumes};
+ghost use Rattle.streams.specs.Failures.{OnReadFailure};
+ghost use Rattle.follow.specs.Feeding.{printed, printed_so_far};
 ghost use Rattle.follow.specs.PrintedRows.{PrintsWhole, RowsHeard};
 
 mod follower;
@@ -16,8 +17,8 @@ use follower::Follower;
 use kind::Kind;
 use row::{LogicRecord, TextRecord, Value};
 use std::env;
-use std::io::{self, Read, Write};
-use streams::answer_all;
+use std::io::{Read, Write};
+use streams::{Failure, answer_all};
 
 // What is said of any other arguments.
 const USAGE: &str = "the kind of value is text or logic";
@@ -40,10 +41,11 @@ pub fn follow<V: Value, R: Read, W: Write>(
     follower: Follower<V>,
     input: &mut R,
     output: &mut W,
-) -> io::Result<()>
+) -> Result<(), Failure>
     ensures rows { PrintsWhole V.kind }
     ensures heard { RowsHeard V.kind }
-    ensures printed { OnOk result (IfSome (R.remaining input.old) (λ s. length s + 1 < 2 ^ 64 → Appends (W.contents output.old) (W.contents output.new) (printed V.kind follower s))) }
+    ensures all { OnOk result (IfSome (R.remaining input.old) (λ s. length s + 1 < 2 ^ 64 → Appends (W.contents output.old) (W.contents output.new) (printed V.kind follower s))) }
+    ensures so_far { OnReadFailure result ((s : List ℕ) × Consumes (R.remaining input.old) (R.remaining input.new) s × (length s < 2 ^ 64 → Appends (W.contents output.old) (W.contents output.new) (printed_so_far V.kind follower s))) }
 {
     answer_all(rt, follower, input, output)
 }

@@ -16,3 +16,7 @@ hearing = record {
 -- all that is printed of an input
 abbrev pub printed : ℕ → List ℕ → List ℕ
 printed session = streams.printed hearing (record { session = session })
+
+-- all that is printed of the first bytes of an input, before its end
+abbrev pub printed_so_far : ℕ → List ℕ → List ℕ
+printed_so_far session = streams.printed_so_far hearing (record { session = session })

@@ -1,9 +1,10 @@
 //! Checks requests, one on each line of standard input, as the emulator would read them.
 #![tactic(auto)]
 
-ghost use Rattle.std.specs.Prelude.{◌+◌, ◌^◌, ◌<◌, length, IfSome, OnOk};
-ghost use Rattle.std.specs.Io.KnownBytes.{Appends};
-ghost use Rattle.request.specs.Feeding.{printed};
+ghost use Rattle.std.specs.Prelude.{ℕ, List, ◌+◌, ◌^◌, ◌<◌, length, IfSome, OnOk};
+ghost use Rattle.std.specs.Io.KnownBytes.{Appends, Consumes};
+ghost use Rattle.streams.specs.Failures.{OnReadFailure};
+ghost use Rattle.request.specs.Feeding.{printed, printed_so_far};
 
 mod anew;
 mod answer;
@@ -17,8 +18,8 @@ use anyhow::{Context, ensure};
 use checker::Checker;
 use session::session_named;
 use std::env;
-use std::io::{self, Read, Write};
-use streams::answer_all;
+use std::io::{Read, Write};
+use streams::{Failure, answer_all};
 
 // What is said of any other arguments.
 const USAGE: &str = "the session's number is 1 to 99999";
@@ -41,8 +42,9 @@ pub fn check<R: Read, W: Write>(
     session: u32,
     input: &mut R,
     output: &mut W,
-) -> io::Result<()>
-    ensures { OnOk result (IfSome (R.remaining input.old) (λ s. length s + 1 < 2 ^ 64 → Appends (W.contents output.old) (W.contents output.new) (printed session s))) }
+) -> Result<(), Failure>
+    ensures all { OnOk result (IfSome (R.remaining input.old) (λ s. length s + 1 < 2 ^ 64 → Appends (W.contents output.old) (W.contents output.new) (printed session s))) }
+    ensures so_far { OnReadFailure result ((s : List ℕ) × Consumes (R.remaining input.old) (R.remaining input.new) s × (length s < 2 ^ 64 → Appends (W.contents output.old) (W.contents output.new) (printed_so_far session s))) }
 {
     answer_all(rt, Checker::new(session), input, output)
 }

@@ -1,7 +1,7 @@
 -- What is printed of an input: for its lines in order the answer to each, and then what is said at the end.
 use Rattle.std.specs.Prelude.{◌≡◌, ℕ, ◌+◌, ◌≤◌, List, [], ◌∷◌, ◌++◌, decimal, take}
 use Rattle.streams.specs.Ends.{line_feed}
-use Rattle.streams.specs.Lines.{bare, lines_of}
+use Rattle.streams.specs.Lines.{bare, ended_lines, lines_of}
 
 -- what becomes of a listener that hears a line, what it answers, and what it says at the end
 pub record Hearing (A : Type 0) : Type 0 where
@@ -14,14 +14,18 @@ abbrev pub answer_line : ℕ → List ℕ → List ℕ
 answer_line n answer = decimal n ++ (answer ++ line_feed ∷ [])
 
 module _ {A : Type 0} (h : Hearing A) where
-  -- each of the lines, the first with the number n, is answered by what heard the lines before it
-  abbrev pub answers : A → ℕ → List (List ℕ) → List ℕ
-  answers a n [] = h.closing a
-  answers a n (line ∷ lines) = answer_line n (h.answer a line) ++ answers (h.next a line) (n + 1) lines
+  -- each of the lines, the first with the number n, is answered by what heard the lines before it, which then says the rest
+  abbrev pub answers : (A → List ℕ) → A → ℕ → List (List ℕ) → List ℕ
+  answers rest a n [] = rest a
+  answers rest a n (line ∷ lines) = answer_line n (h.answer a line) ++ answers rest (h.next a line) (n + 1) lines
 
   -- all that is printed of an input
   abbrev pub printed : A → List ℕ → List ℕ
-  printed a input = answers a 1 (lines_of input)
+  printed a input = answers h.closing a 1 (lines_of input)
+
+  -- what is printed of the first bytes of an input
+  abbrev pub printed_so_far : A → List ℕ → List ℕ
+  printed_so_far a input = answers (λ _. []) a 1 (ended_lines input)
 
   -- two lines are one to a listener
   abbrev pub HeardAlike : A → List ℕ → List ℕ → Type 0

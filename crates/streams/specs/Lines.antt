@@ -28,3 +28,16 @@ lines_among (text ∷ more) = lines_from text more
 -- the lines of an input: each ends with LF or CR LF, and is given without
 abbrev pub lines_of : List ℕ → List (List ℕ)
 lines_of input = lines_among (divided_by line_feed input)
+
+-- the lines among these texts that have ended: all but the last
+abbrev pub ended_from : List ℕ → List (List ℕ) → List (List ℕ)
+ended_from text [] = []
+ended_from text (next ∷ more) = bare text ∷ ended_from next more
+
+abbrev pub ended_among : List (List ℕ) → List (List ℕ)
+ended_among [] = []
+ended_among (text ∷ more) = ended_from text more
+
+-- the lines of the first bytes of an input: what no LF ends is no line yet
+abbrev pub ended_lines : List ℕ → List (List ℕ)
+ended_lines input = ended_among (divided_by line_feed input)

@@ -2,6 +2,7 @@
 #![tactic(auto)]
 
 mod ends;
+mod failure;
 mod hear;
 mod held;
 mod print;
@@ -9,8 +10,9 @@ mod run;
 mod stream;
 
 pub use ends::split_line;
+pub use failure::Failure;
 pub use hear::Hear;
 pub use held::{front, hold, without_cr};
 pub use print::push_refusal;
-pub use run::answer_all;
+pub use run::{answer_all, answer_block};
 pub use stream::Stream;

@@ -1,12 +1,15 @@
 //! An input answered to its end.
-ghost use Rattle.std.specs.Prelude.{◌≡◌, ◌+◌, ◌^◌, ◌<◌, length, IfSome, OnOk};
-ghost use Rattle.std.specs.Io.KnownBytes.{Appends};
-ghost use Rattle.streams.specs.Answers.{printed};
-ghost use Rattle.streams.specs.Feeding.{fed};
+ghost use Rattle.std.specs.Prelude.{◌≡◌, ℕ, List, ◌+◌, ◌^◌, ◌<◌, length, IfSome, OnOk};
+ghost use Rattle.std.specs.Io.KnownBytes.{Appends, Consumes};
+ghost use Rattle.streams.specs.Answers.{printed, printed_so_far};
+ghost use Rattle.streams.specs.Failures.{OnReadFailure};
+ghost use Rattle.streams.specs.Feeding.{fed, finished};
 ghost use Rattle.streams.specs.Streams.{state_of};
 
+use crate::failure::Failure;
 use crate::hear::Hear;
 use crate::stream::Stream;
+use std::alloc::Global;
 use std::io::{self, Read, Write};
 
 const BLOCK: usize = 65536;
@@ -28,28 +31,42 @@ pub fn answer_block<H: Hear, W: Write>(
     output.write_all(text)
 }
 
+// Answers a last line that has no end, if there is one, and says what there is to say at the end.
+fn answer_end<H: Hear, W: Write>(
+    heap: Global,
+    stream: &mut Stream<H>,
+    output: &mut W,
+) -> io::Result<()>
+    ensures { OnOk result (Appends (W.contents output.old) (W.contents output.new) (finished H.LIMIT H.hearing (state_of stream.old)).text) }
+{
+    let mut text = Vec::new(heap);
+    stream.finish(&mut text)?;
+    output.write_all(&text)
+}
+
 /// Answers the lines of an input, in order and each with its number, and says what there is to say
-/// at its end. Each block that is read is answered before the next read, which may wait for input.
+/// at its end. Each block that is read is answered before the next read, which may wait for input:
+/// where a read fails, all lines that had ended before are answered.
 pub fn answer_all<H: Hear, R: Read, W: Write>(
     rt: &impl AllocGlobal,
     listener: H,
     input: &mut R,
     output: &mut W,
-) -> io::Result<()>
-    ensures { OnOk result (IfSome (R.remaining input.old) (λ s. length s + 1 < 2 ^ 64 → Appends (W.contents output.old) (W.contents output.new) (printed H.hearing listener s))) }
+) -> Result<(), Failure>
+    ensures all { OnOk result (IfSome (R.remaining input.old) (λ s. length s + 1 < 2 ^ 64 → Appends (W.contents output.old) (W.contents output.new) (printed H.hearing listener s))) }
+    ensures so_far { OnReadFailure result ((s : List ℕ) × Consumes (R.remaining input.old) (R.remaining input.new) s × (length s < 2 ^ 64 → Appends (W.contents output.old) (W.contents output.new) (printed_so_far H.hearing listener s))) }
 {
     let mut stream = Stream::new(rt.alloc(), listener);
     let mut text = Vec::new(rt.alloc());
     let mut block = [0u8; BLOCK];
     // A reader may never end, and each loop has to.
     for _ in 0..u64::MAX {
-        let n = input.read(&mut block)?;
-        if n == 0 {
-            break;
-        }
-        answer_block(&mut stream, &block[..n], &mut text, output)?;
+        let n = match input.read(&mut block) {
+            Ok(0) => break,
+            Ok(n) => n,
+            Err(error) => return Err(Failure::Read(error)),
+        };
+        answer_block(&mut stream, &block[..n], &mut text, output).map_err(Failure::Write)?;
     }
-    let mut last = Vec::new(rt.alloc());
-    stream.finish(&mut last)?;
-    output.write_all(&last)
+    answer_end(rt.alloc(), &mut stream, output).map_err(Failure::Write)
 }
