@@ -85,7 +85,7 @@ module _ {R : Type 0} (k : Kind R) (law : Lawful k) (id n : ℕ) (row : List (re
 
     -- what both lines leave in the entry's row
     after-update : (v : View) → length v.entries ≡ length es → length v.cells ≡ length cs → Sets es cs i (record { id = id; fields = Some n }) null_cells blank v
-      → (r : Result View Refusal) → hear k.allowed v.entries v.cells line ≡ r → row_at i (cells_after v.cells r) ≡ row_of k n row
+        → (r : Result View Refusal) → hear k.allowed v.entries v.cells line ≡ r → row_at i (cells_after v.cells r) ≡ row_of k n row
     after-update v les' lcs' sets r is = by r is told
       where
         asked : (list : Piece) × Asks line (updates id list) × (list.text ≡ written_list (changes_of k (whole_changes k row) n))

@@ -38,11 +38,11 @@ module _ {R : Type 0} (k : Kind R) (law : Lawful k) (id n : ℕ) (row : List (re
   says =
       sym (take-map (change_of k) n (whole_changes k row))
       ∙ ap (take n)
-        (map-map (change_of k) (change_record k) (map becomes (map (cell_of k) row))
-        ∙ ap (map (λ x. change_of k (change_record k x))) (map-map becomes (cell_of k) row)
-        ∙ map-map (λ x. change_of k (change_record k x)) (λ c. becomes (cell_of k c)) row
-        ∙ (λ i. map (λ c. wholly-means k law c i) row)
-        ∙ sym (map-map becomes (cell_of k) row))
+      (map-map (change_of k) (change_record k) (map becomes (map (cell_of k) row))
+      ∙ ap (map (λ x. change_of k (change_record k x))) (map-map becomes (cell_of k) row)
+      ∙ map-map (λ x. change_of k (change_record k x)) (λ c. becomes (cell_of k c)) row
+      ∙ (λ i. map (λ c. wholly-means k law c i) row)
+      ∙ sym (map-map becomes (cell_of k) row))
       ∙ take-map becomes n (map (cell_of k) row)
 
   pub printed-whole : PrintedWhole k id n row

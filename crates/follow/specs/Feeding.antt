@@ -7,7 +7,6 @@ use Rattle.row.specs.Rows.{same}
 use Rattle.tlcp.specs.Limits.{line_limit}
 use Rattle.viewer.specs.Hearing.{Outcome, heard}
 use Rattle.viewer.specs.Entries.{waiting}
-use Rattle.streams.specs.Answers as streams
 use Rattle.streams.specs.Answers.{Hearing}
 use Rattle.follow.specs.Answers.{answer_text, rows_text}
 use Rattle.follow.specs.declared.follower.Follower.{Follower}
@@ -39,11 +38,3 @@ module _ {R : Type 0} (k : Kind R) where
     cells = replicate cell_limit (null_cell k);
     delta = replicate field_limit (change_record k same);
   }
-
-  -- all that a follower prints of an input
-  abbrev pub printed : Follower R → List ℕ → List ℕ
-  printed = streams.printed hearing
-
-  -- all that a follower prints of the first bytes of an input, before its end
-  abbrev pub printed_so_far : Follower R → List ℕ → List ℕ
-  printed_so_far = streams.printed_so_far hearing

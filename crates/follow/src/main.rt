@@ -1,10 +1,10 @@
-//! Hears a TLCP stream on standard input, says what came of each line, and prints the open rows at the end.
+//! Hears a TLCP stream on standard input, says what came of each line, and prints the open rows at
+//! the end. Its argument names the kind of the values, `text` or `logic`; without one it is text.
 #![tactic(auto)]
 
-ghost use Rattle.std.specs.Prelude.{ℕ, List, ◌+◌, ◌^◌, ◌<◌, length, IfSome, OnOk};
-ghost use Rattle.std.specs.Io.KnownBytes.{Appends, Consumes};
-ghost use Rattle.streams.specs.Failures.{OnReadFailure};
-ghost use Rattle.follow.specs.Feeding.{printed, printed_so_far};
+ghost use Rattle.std.specs.Prelude.{OnOk};
+ghost use Rattle.streams.specs.Answered.{AnswersAll, AnswersSoFar, OnReadFailure};
+ghost use Rattle.follow.specs.Feeding.{hearing};
 ghost use Rattle.follow.specs.PrintedRows.{PrintsWhole, RowsHeard};
 
 mod follower;
@@ -24,7 +24,8 @@ use streams::{Failure, answer_all};
 const USAGE: &str = "the kind of value is text or logic";
 
 // The kind that the program's arguments name, behind its own name: text where they name none.
-// kept: like `chosen` of `request`; one function of both takes a default, a usage and a closure, for these five lines
+// Like `chosen` of `request`: one function for both would take a default, a usage and a closure, for
+// these five lines.
 fn chosen(rt: &HostRuntime) -> anyhow::Result<Kind> {
     let mut words = env::args(rt)?;
     let _ = words.next();
@@ -35,7 +36,8 @@ fn chosen(rt: &HostRuntime) -> anyhow::Result<Kind> {
     Kind::named(&word).context(USAGE)
 }
 
-/// Answers the lines of an input with values of a kind, and prints the open rows behind its end.
+/// Answers the lines of an input with values of a kind, and prints the open rows behind its end,
+/// each as the line that the emulator writes for it.
 pub fn follow<V: Value, R: Read, W: Write>(
     rt: &impl AllocGlobal,
     follower: Follower<V>,
@@ -44,8 +46,12 @@ pub fn follow<V: Value, R: Read, W: Write>(
 ) -> Result<(), Failure>
     ensures rows { PrintsWhole V.kind }
     ensures heard { RowsHeard V.kind }
-    ensures all { OnOk result (IfSome (R.remaining input.old) (λ s. length s + 1 < 2 ^ 64 → Appends (W.contents output.old) (W.contents output.new) (printed V.kind follower s))) }
-    ensures so_far { OnReadFailure result ((s : List ℕ) × Consumes (R.remaining input.old) (R.remaining input.new) s × (length s < 2 ^ 64 → Appends (W.contents output.old) (W.contents output.new) (printed_so_far V.kind follower s))) }
+    ensures all { OnOk result
+        (AnswersAll (hearing V.kind) follower (R.remaining input.old) (R.remaining input.new)
+        (W.contents output.old) (W.contents output.new)) }
+    ensures so_far { OnReadFailure result
+        (AnswersSoFar (hearing V.kind) follower (R.remaining input.old) (R.remaining input.new)
+        (W.contents output.old) (W.contents output.new)) }
 {
     answer_all(rt, follower, input, output)
 }

@@ -1,10 +1,9 @@
 //! Checks requests, one on each line of standard input, as the emulator would read them.
 #![tactic(auto)]
 
-ghost use Rattle.std.specs.Prelude.{ℕ, List, ◌+◌, ◌^◌, ◌<◌, length, IfSome, OnOk};
-ghost use Rattle.std.specs.Io.KnownBytes.{Appends, Consumes};
-ghost use Rattle.streams.specs.Failures.{OnReadFailure};
-ghost use Rattle.request.specs.Feeding.{printed, printed_so_far};
+ghost use Rattle.std.specs.Prelude.{OnOk};
+ghost use Rattle.streams.specs.Answered.{AnswersAll, AnswersSoFar, OnReadFailure};
+ghost use Rattle.request.specs.Feeding.{checker, hearing};
 
 mod anew;
 mod answer;
@@ -25,7 +24,8 @@ use streams::{Failure, answer_all};
 const USAGE: &str = "the session's number is 1 to 99999";
 
 // The session that the program's arguments name, behind its own name: the first where they name none.
-// kept: like `chosen` of `follow`; one function of both takes a default, a usage and a closure, for these five lines
+// Like `chosen` of `follow`: one function for both would take a default, a usage and a closure, for
+// these five lines.
 fn chosen(rt: &HostRuntime) -> anyhow::Result<u32> {
     let mut words = env::args(rt)?;
     let _ = words.next();
@@ -43,8 +43,12 @@ pub fn check<R: Read, W: Write>(
     input: &mut R,
     output: &mut W,
 ) -> Result<(), Failure>
-    ensures all { OnOk result (IfSome (R.remaining input.old) (λ s. length s + 1 < 2 ^ 64 → Appends (W.contents output.old) (W.contents output.new) (printed session s))) }
-    ensures so_far { OnReadFailure result ((s : List ℕ) × Consumes (R.remaining input.old) (R.remaining input.new) s × (length s < 2 ^ 64 → Appends (W.contents output.old) (W.contents output.new) (printed_so_far session s))) }
+    ensures all { OnOk result
+        (AnswersAll hearing (checker session) (R.remaining input.old) (R.remaining input.new)
+        (W.contents output.old) (W.contents output.new)) }
+    ensures so_far { OnReadFailure result
+        (AnswersSoFar hearing (checker session) (R.remaining input.old) (R.remaining input.new)
+        (W.contents output.old) (W.contents output.new)) }
 {
     answer_all(rt, Checker::new(session), input, output)
 }

@@ -96,9 +96,9 @@ module _ (limit : ℕ) {A : Type 0} (h : Hearing A) (enough : Enough limit h) wh
       go one = (one.text ++ (fed limit h one.state s).text) ++ (finished limit h (fed limit h one.state s).state).text
 
       by : (t : Bool) → eqb b line_feed ≡ t
-        → (n + length (begun ++ b ∷ []) + length s < 2 ^ 64 → whole (begins a (begun ++ b ∷ []) n) s ≡ answers h h.closing a (n + 1) (lines_among (continued (begun ++ b ∷ []) texts)))
-        → ((x : A) → n + 1 + 0 + length s < 2 ^ 64 → whole (begins x [] (n + 1)) s ≡ answers h h.closing x (n + 1 + 1) (lines_among (continued [] texts)))
-        → whole st (b ∷ s) ≡ answers h h.closing a (n + 1) (lines_among (continued begun (divided_by line_feed (b ∷ s))))
+          → (n + length (begun ++ b ∷ []) + length s < 2 ^ 64 → whole (begins a (begun ++ b ∷ []) n) s ≡ answers h h.closing a (n + 1) (lines_among (continued (begun ++ b ∷ []) texts)))
+          → ((x : A) → n + 1 + 0 + length s < 2 ^ 64 → whole (begins x [] (n + 1)) s ≡ answers h h.closing x (n + 1 + 1) (lines_among (continued [] texts)))
+          → whole st (b ∷ s) ≡ answers h h.closing a (n + 1) (lines_among (continued begun (divided_by line_feed (b ∷ s))))
       by true e held_on heard =
           let line = bare (take limit begun) in
           let rest : A → List ℕ = λ x. answers h h.closing x (n + 1 + 1) (lines_among texts) in
@@ -137,9 +137,9 @@ module _ (limit : ℕ) {A : Type 0} (h : Hearing A) (enough : Enough limit h) wh
       go one = one.text ++ (fed limit h one.state s).text
 
       by : (t : Bool) → eqb b line_feed ≡ t
-        → (n + length (begun ++ b ∷ []) + length s < 2 ^ 64 → (fed limit h (begins a (begun ++ b ∷ []) n) s).text ≡ so-far a (n + 1) (ended_among (continued (begun ++ b ∷ []) texts)))
-        → ((x : A) → n + 1 + 0 + length s < 2 ^ 64 → (fed limit h (begins x [] (n + 1)) s).text ≡ so-far x (n + 1 + 1) (ended_among (continued [] texts)))
-        → (fed limit h st (b ∷ s)).text ≡ so-far a (n + 1) (ended_among (continued begun (divided_by line_feed (b ∷ s))))
+          → (n + length (begun ++ b ∷ []) + length s < 2 ^ 64 → (fed limit h (begins a (begun ++ b ∷ []) n) s).text ≡ so-far a (n + 1) (ended_among (continued (begun ++ b ∷ []) texts)))
+          → ((x : A) → n + 1 + 0 + length s < 2 ^ 64 → (fed limit h (begins x [] (n + 1)) s).text ≡ so-far x (n + 1 + 1) (ended_among (continued [] texts)))
+          → (fed limit h st (b ∷ s)).text ≡ so-far a (n + 1) (ended_among (continued begun (divided_by line_feed (b ∷ s))))
       by true e held_on heard =
           let line = bare (take limit begun) in
           let rest : A → List ℕ = λ x. answers h (λ _. []) x (n + 1 + 1) (ended_among texts) in

@@ -6,4 +6,4 @@ pub mod Feeding
 pub mod Long
 pub mod Heard
 pub mod Streams
-pub mod Failures
+pub mod Answered

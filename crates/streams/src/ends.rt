@@ -1,5 +1,5 @@
-//! Where lines end. A block is searched part by part, and within a part with no branch on what a byte is: a wrong
-//! guess at where a line ends costs more than the rest of the part.
+//! Where lines end. A block is searched part by part, and within a part with no branch on what a
+//! byte is: a wrong guess at where a line ends costs more than the rest of the part.
 ghost use Rattle.std.specs.Prelude.{◌≡◌, ◌+◌, ◌≤◌, length, position, MatchOption, ◌==◌};
 ghost use Rattle.std.specs.List.{list_any};
 ghost use Rattle.std.specs.Option.{option_map};
@@ -14,7 +14,7 @@ const PART: usize = 16;
 const LINE_FEED: u8 = b'\n';
 
 // Whether a line ends in the part.
-// kept: `any` leaves by a branch, and `follow` then takes some percent longer than before (bench/run)
+// `any` would leave by a branch; `bench/run` shows some percent more time for `follow` then.
 fn has_end(part: &[u8]) -> bool
     ensures { result ≡ list_any (λ b. b == line_feed) part.now }
 {
@@ -22,7 +22,8 @@ fn has_end(part: &[u8]) -> bool
 }
 
 // The place of the first end in the part, or the part's length where there is none.
-// kept: `position` leaves by a branch, and the search, which `follow`'s speed hangs on, then takes a third longer
+// `position` would leave by a branch, and the search, on which the speed of `follow` hangs, takes a
+// third longer then.
 fn end_in(part: &[u8]) -> usize
     ensures value { result ≡ place_of line_feed part.now }
     ensures within { result ≤ length part.now }
@@ -54,7 +55,7 @@ fn find_end(s: &[u8]) -> Option<usize>
     Some(s.len() - rest.len() + end)
 }
 
-/// What stands before the first end, and what stands behind it, if there is one.
+/// What stands before the first LF, and what stands behind it; all and `None`, if there is no LF.
 #[inline(always)]
 pub fn split_line(s: &[u8]) -> (&[u8], Option<&[u8]>)
     ensures front { result.0.now ≡ before line_feed s.now }

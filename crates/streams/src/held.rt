@@ -5,7 +5,8 @@ ghost use Rattle.streams.specs.Lines.{bare};
 
 use std::alloc::AllocError;
 
-/// Further bytes, as long as there are no more than the limit.
+/// Holds further bytes behind those held, as long as there are no more than the limit, so that a
+/// line of any length takes constant memory.
 pub fn hold(held: &mut Vec<u8>, bytes: &[u8], limit: usize) -> Result<(), AllocError>
     ensures { OnOk result (held.new.items ≡ held_with limit held.old.items bytes.now) }
 {
@@ -13,14 +14,14 @@ pub fn hold(held: &mut Vec<u8>, bytes: &[u8], limit: usize) -> Result<(), AllocE
     Ok(())
 }
 
-/// As much of a line as is looked at.
+/// The first bytes of a line, no more than the limit.
 pub fn front(line: &[u8], limit: usize) -> &[u8]
     ensures { result.now ≡ take limit line.now }
 {
     &line[..line.len().min(limit)]
 }
 
-/// A line without the CR of its end.
+/// A line without the CR at its end, if it has one.
 pub fn without_cr(line: &[u8]) -> &[u8]
     ensures { result.now ≡ bare line.now }
 {

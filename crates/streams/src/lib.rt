@@ -1,4 +1,6 @@
-//! Lines cut from blocks of input, and heard one after another.
+//! Lines cut from blocks of input, heard one after another and answered. A line ends with LF or
+//! CR LF; what stands behind the last LF is a line if it has a byte. Each answer is printed as one
+//! line, behind the line's number, counted from 1.
 #![tactic(auto)]
 
 mod ends;

@@ -1,8 +1,7 @@
 //! An input answered to its end.
-ghost use Rattle.std.specs.Prelude.{◌≡◌, ℕ, List, ◌+◌, ◌^◌, ◌<◌, length, IfSome, OnOk};
-ghost use Rattle.std.specs.Io.KnownBytes.{Appends, Consumes};
-ghost use Rattle.streams.specs.Answers.{printed, printed_so_far};
-ghost use Rattle.streams.specs.Failures.{OnReadFailure};
+ghost use Rattle.std.specs.Prelude.{◌≡◌, OnOk};
+ghost use Rattle.std.specs.Io.KnownBytes.{Appends};
+ghost use Rattle.streams.specs.Answered.{AnswersAll, AnswersSoFar, OnReadFailure};
 ghost use Rattle.streams.specs.Feeding.{fed, finished};
 ghost use Rattle.streams.specs.Streams.{state_of};
 
@@ -53,8 +52,12 @@ pub fn answer_all<H: Hear, R: Read, W: Write>(
     input: &mut R,
     output: &mut W,
 ) -> Result<(), Failure>
-    ensures all { OnOk result (IfSome (R.remaining input.old) (λ s. length s + 1 < 2 ^ 64 → Appends (W.contents output.old) (W.contents output.new) (printed H.hearing listener s))) }
-    ensures so_far { OnReadFailure result ((s : List ℕ) × Consumes (R.remaining input.old) (R.remaining input.new) s × (length s < 2 ^ 64 → Appends (W.contents output.old) (W.contents output.new) (printed_so_far H.hearing listener s))) }
+    ensures all { OnOk result
+        (AnswersAll H.hearing listener (R.remaining input.old) (R.remaining input.new)
+        (W.contents output.old) (W.contents output.new)) }
+    ensures so_far { OnReadFailure result
+        (AnswersSoFar H.hearing listener (R.remaining input.old) (R.remaining input.new)
+        (W.contents output.old) (W.contents output.new)) }
 {
     let mut stream = Stream::new(rt.alloc(), listener);
     let mut text = Vec::new(rt.alloc());

@@ -29,7 +29,7 @@ impl<H: Hear> Counted<H> {
     }
 }
 
-/// What hears the lines, and the bytes of a line that has not ended.
+/// What hears the lines, and the first bytes of a line that has not ended.
 #[derive(Drop)]
 pub struct Stream<H> {
     counted: Counted<H>,
@@ -37,7 +37,8 @@ pub struct Stream<H> {
 }
 
 impl<H: Hear> Stream<H> {
-    /// A stream before its first byte.
+    /// A stream before its first byte. How an input is cut into blocks makes no difference, and what
+    /// all its blocks and its end append is what is printed of its lines.
     pub fn new(heap: Global, listener: H) -> Stream<H>
         ensures state { state_of result ≡ fresh listener }
         ensures blocks { CutAnywhere H.LIMIT H.hearing }

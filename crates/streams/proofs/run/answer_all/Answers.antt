@@ -26,12 +26,12 @@ returns-clause-all g c =
     let ended : IsAtEnd input ⊎ (2 ^ 64 - 1 ≤ length seen) = elim c.loop-test.branch [
       | else-loop-test w ↦ inr (omega (arith, so.turns, w.loop-test.false))
       | then-loop-test+in-Ok-eq0 w ↦
-        inl
-        (at-end input (g.R.Read.remaining w.read.new.self) _ (ap (λ n. take n w.read.new.buf) w.in-Ok-eq0.field-0-test) w.in-Ok-eq0.ensures.bytes.0 (w.in-Ok-eq0.ensures.bytes.1 w.in-Ok-eq0.field-0-test (omega (arith, so.block))))
+          inl
+          (at-end input (g.R.Read.remaining w.read.new.self) _ (ap (λ n. take n w.read.new.buf) w.in-Ok-eq0.field-0-test) w.in-Ok-eq0.ensures.bytes.0 (w.in-Ok-eq0.ensures.bytes.1 w.in-Ok-eq0.field-0-test (omega (arith, so.block))))
     ] in
     let P = Appends before behind in
     same-ok _ c.answer_end.result c.map_err-2.result c.map_err-2.ensures.variant
     (on_ok_weaker c.answer_end.result
     (λ more. seen-all (g.R.Read.remaining c.args.input.now) input seen (λ s. P (printed g.H.Hear.hearing c.args.listener s)) so.read ended
-      (λ few. subst P (prints-lines g.H.Hear.LIMIT g.H.Hear.hearing g.met.H.Hear.enough c.args.listener seen few) (appends-more before looped behind all.text (last all.state).text so.wrote (subst (λ st. Appends looped behind (last st).text) so.state more))))
+    (λ few. subst P (prints-lines g.H.Hear.LIMIT g.H.Hear.hearing g.met.H.Hear.enough c.args.listener seen few) (appends-more before looped behind all.text (last all.state).text so.wrote (subst (λ st. Appends looped behind (last st).text) so.state more))))
     c.answer_end.ensures)
