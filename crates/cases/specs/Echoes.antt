@@ -15,7 +15,8 @@ echoes = record { next = λ a _. a; answer = λ _ line. echo line; closing = λ 
 
 long-alike : {A : Type 0} → LongAlike (echoes {A = A}) 5
 long-alike a s t long longer =
-    let is : (r : List ℕ) → 5 < length r → echo r ≡ codes " long" = λ r more. cond-false (leb (length r) 5) _ _ (lt-leb (length r) 5 more) in
+    let is : (r : List ℕ) → 5 < length r → echo r ≡ codes " long" =
+    λ r more. cond-false (leb (length r) 5) _ _ (lt-leb (length r) 5 more) in
     (refl, is s long ∙ sym (is t longer))
 
 pub echoes-enough : {A : Type 0} → Enough 7 (echoes {A = A})

@@ -24,7 +24,8 @@ abbrev pub Prints : Result ℕ Refusal → List ℕ → List ℕ → Type 0
 Prints (Ok n) line text = take n line ++ line_feed ∷ [] ≡ text
 Prints (Err e) line text = text ≡ []
 
-module _ {R : Type 0} (k : Kind R) (law : Lawful k) (id : ℕ) (row : List (Cell R)) (fields : ℕ) (long : length row ≡ field_limit) where
+module _ {R : Type 0} (k : Kind R) (law : Lawful k) (id : ℕ) (row : List (Cell R)) (fields : ℕ)
+    (long : length row ≡ field_limit) where
   abbrev delta : List (Change R)
   delta = whole_changes k row
 
@@ -32,20 +33,27 @@ module _ {R : Type 0} (k : Kind R) (law : Lawful k) (id : ℕ) (row : List (Cell
   out = replicate line_limit 0
 
   pub whole : length delta ≡ field_limit
-  whole = length-map (map becomes (map (cell_of k) row)) (change_record k) ∙ length-map (map (cell_of k) row) becomes ∙ length-map row (cell_of k) ∙ long
+  whole = length-map (map becomes (map (cell_of k) row)) (change_record k)
+      ∙ length-map (map (cell_of k) row) becomes ∙ length-map row (cell_of k) ∙ long
 
   abbrev line : List ℕ
   line = line_text (row_update k id row fields)
 
   -- what is left in memory, and answered, of a line that was written
-  written : within (row_update k id row fields) ≡ true → covers fields ≡ true → Prints (end_or 0 line out) (placed_or 0 line out) (line ++ line_feed ∷ [])
+  written : within (row_update k id row fields) ≡ true → covers fields ≡ true
+      → Prints (end_or 0 line out) (placed_or 0 line out) (line ++ line_feed ∷ [])
   written in_limits covered =
-      let update : Update k id delta fields = record { whole = whole; id-within = in_limits; fields_within = covered } in
+      let update : Update k id delta fields =
+      record { whole = whole; id-within = in_limits; fields_within = covered } in
       let short = update-short k law id delta fields update in
-      let room : fits 0 line out ≡ true = le-leb (0 + length line) (length out) (omega (arith, short, length-replicate {A = ℕ} line_limit 0)) in
-      subst (λ r. Prints r (placed_or 0 line out) (line ++ line_feed ∷ [])) (sym (cond-true (fits 0 line out) (Ok (0 + length line)) (Err no_room) room))
-      (ap (λ l. take (0 + length line) l ++ line_feed ∷ []) (cond-true (fits 0 line out) (placed 0 line out) out room)
-      ∙ ap (λ l. l ++ line_feed ∷ []) (take_at line (drop (0 + length line) out) (0 + length line) (omega arith)))
+      let room : fits 0 line out ≡ true = le-leb (0 + length line) (length out)
+      (omega (arith, short, length-replicate {A = ℕ} line_limit 0)) in
+      subst (λ r. Prints r (placed_or 0 line out) (line ++ line_feed ∷ []))
+      (sym (cond-true (fits 0 line out) (Ok (0 + length line)) (Err no_room) room))
+      (ap (λ l. take (0 + length line) l ++ line_feed ∷ [])
+      (cond-true (fits 0 line out) (placed 0 line out) out room)
+      ∙ ap (λ l. l ++ line_feed ∷ [])
+      (take_at line (drop (0 + length line) out) (0 + length line) (omega arith)))
 
   -- what the writer answers, and leaves in memory, by the two tests
   abbrev answer : Bool → Bool → Result ℕ Refusal
@@ -54,16 +62,25 @@ module _ {R : Type 0} (k : Kind R) (law : Lawful k) (id : ℕ) (row : List (Cell
   abbrev left : Bool → Bool → List ℕ
   left a b = cond a (cond b (placed_or 0 line out) out) out
 
-  by-tests : (a b : Bool) → within (row_update k id row fields) ≡ a → covers fields ≡ b → Prints (answer a b) (left a b) (cond (a && b) (line ++ line_feed ∷ []) [])
+  by-tests : (a b : Bool) → within (row_update k id row fields) ≡ a → covers fields ≡ b
+      → Prints (answer a b) (left a b) (cond (a && b) (line ++ line_feed ∷ []) [])
   by-tests true true p q = written p q
   by-tests true false p q = refl
   by-tests false b p q = refl
 
   -- what the writer made of a row's update is what is printed of the row
-  pub row-written : (d : List (Change R)) → d ≡ delta → (r : Result ℕ Refusal) → r ≡ update_answer k id d fields 0 out → (left : List ℕ) → left ≡ update_placed k id d fields 0 out → Prints r left (row_line k id row fields)
+  pub row-written : (d : List (Change R)) → d ≡ delta → (r : Result ℕ Refusal)
+      → r ≡ update_answer k id d fields 0 out → (left : List ℕ)
+      → left ≡ update_placed k id d fields 0 out → Prints r left (row_line k id row fields)
   row-written d same r answered l placed =
       let a = within (row_update k id row fields) in
       let b = covers fields in
-      let whole-answer = answered ∙ ap (λ x. update_answer k id x fields 0 out) same ∙ cond-true (length delta == field_limit) (answer a b) (Err memory_refusal) (eq-eqb (length delta) field_limit whole) in
-      let whole-left = placed ∙ ap (λ x. update_placed k id x fields 0 out) same ∙ cond-true (length delta == field_limit) (left a b) out (eq-eqb (length delta) field_limit whole) in
-      subst (λ x. Prints x l (row_line k id row fields)) (sym whole-answer) (subst (λ x. Prints (answer a b) x (row_line k id row fields)) (sym whole-left) (by-tests a b refl refl))
+      let whole-answer = answered ∙ ap (λ x. update_answer k id x fields 0 out) same
+      ∙ cond-true (length delta == field_limit) (answer a b) (Err memory_refusal)
+      (eq-eqb (length delta) field_limit whole) in
+      let whole-left = placed ∙ ap (λ x. update_placed k id x fields 0 out) same
+      ∙ cond-true (length delta == field_limit) (left a b) out
+      (eq-eqb (length delta) field_limit whole) in
+      subst (λ x. Prints x l (row_line k id row fields)) (sym whole-answer)
+      (subst (λ x. Prints (answer a b) x (row_line k id row fields)) (sym whole-left)
+      (by-tests a b refl refl))

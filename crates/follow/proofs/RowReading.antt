@@ -20,10 +20,12 @@ use Rattle.follow.specs.PrintedRows.{PrintedWhole, Row, fields_of}
 use Rattle.follow.proofs.RowLines.{whole}
 
 -- a number within its limits
-pub number-within : (low high m : ℕ) → low ≤ m → m ≤ high → is_within (lines.number low high) (number m) ≡ true
+pub number-within : (low high m : ℕ) → low ≤ m → m ≤ high
+    → is_within (lines.number low high) (number m) ≡ true
 number-within low high m l u = and_from _ _ (le-leb low m l) (le-leb m high u)
 
-module _ {R : Type 0} (k : Kind R) (law : Lawful k) (id n : ℕ) (row : List (records.Cell R)) (h : Row k id n row) where
+module _ {R : Type 0} (k : Kind R) (law : Lawful k) (id n : ℕ) (row : List (records.Cell R))
+    (h : Row k id n row) where
   in_limits : within (row_update k id row n) ≡ true
   in_limits = and_from _ _ (number-within 1 id_limit id h.low h.high) refl
 
@@ -31,7 +33,8 @@ module _ {R : Type 0} (k : Kind R) (law : Lawful k) (id n : ℕ) (row : List (re
   covered = and_from _ _ (le-leb 1 n h.some) (le-leb n field_limit h.few)
 
   update : Update k id (whole_changes k row) n
-  update = record { whole = whole k law id row n h.long; id-within = in_limits; fields_within = covered }
+  update =
+      record { whole = whole k law id row n h.long; id-within = in_limits; fields_within = covered }
 
   -- what the list says of the fields
   says : changes_of k (whole_changes k row) n ≡ map becomes (fields_of k n row)
@@ -49,18 +52,23 @@ module _ {R : Type 0} (k : Kind R) (law : Lawful k) (id n : ℕ) (row : List (re
   printed-whole =
       let back = update-back k law id (whole_changes k row) n update in
       record {
-        line = cond-true (within (row_update k id row n) && covers n) _ [] (and_from _ _ in_limits covered);
+        line = cond-true (within (row_update k id row n) && covers n) _ []
+            (and_from _ _ in_limits covered);
         unbroken = update-unbroken k law id (whole_changes k row) n update;
         update = back.0.line;
         cells = back.1 ∙ ap Ok says;
       }
 
 -- changes that come to every cell of a null row's fields leave these cells
-pub null-changed : (cells : List Cell) (m : ℕ) → changed (replicate (length cells + m) null) (map becomes cells ++ replicate m same) ≡ cells ++ replicate m null
+pub null-changed : (cells : List Cell) (m : ℕ)
+    → changed (replicate (length cells + m) null) (map becomes cells ++ replicate m same)
+    ≡ cells ++ replicate m null
 null-changed [] zero = refl
 null-changed [] (suc m) =
     let one : 0 + suc m ≡ suc (0 + m) = omega arith in
-    ap (λ n. changed (replicate n null) (replicate (suc m) same)) one ∙ ap (λ cs. null ∷ cs) (null-changed [] m)
+    ap (λ n. changed (replicate n null) (replicate (suc m) same)) one
+    ∙ ap (λ cs. null ∷ cs) (null-changed [] m)
 null-changed (c ∷ cells) m =
     let one : suc (length cells) + m ≡ suc (length cells + m) = omega arith in
-    ap (λ n. changed (replicate n null) (becomes c ∷ (map becomes cells ++ replicate m same))) one ∙ ap (λ cs. c ∷ cs) (null-changed cells m)
+    ap (λ n. changed (replicate n null) (becomes c ∷ (map becomes cells ++ replicate m same))) one
+    ∙ ap (λ cs. c ∷ cs) (null-changed cells m)

@@ -24,7 +24,8 @@ module _ {R : Type 0} (k : Kind R) where
   abbrev pub row_update : ℕ → List (Cell R) → ℕ → Saying
   row_update id row fields = update_of k id (whole_changes k row) fields
 
-  -- the line that the emulator writes for a row, if there is a subscription with this ID and a row of so many fields
+  -- the line that the emulator writes for a row, if there is a subscription with this ID and a row
+  -- of so many fields
   abbrev pub row_line : ℕ → List (Cell R) → ℕ → List ℕ
   row_line id row fields =
       let update = row_update id row fields in

@@ -11,7 +11,8 @@ use Rattle.streams.specs.Answers.{Hearing}
 use Rattle.follow.specs.Answers.{answer_text, rows_text}
 use Rattle.follow.specs.declared.follower.Follower.{Follower}
 
--- so many bytes are held of a line: enough to tell one that is too long, whether CR LF ends it or LF
+-- so many bytes are held of a line: enough to tell one that is too long, whether CR LF ends it or
+-- LF
 abbrev pub held_limit : ℕ
 held_limit = line_limit + 2
 

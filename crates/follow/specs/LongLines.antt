@@ -1,4 +1,5 @@
--- A line that is longer than a line may be is refused whatever it holds, so its first bytes tell its answer.
+-- A line that is longer than a line may be is refused whatever it holds, so its first bytes tell
+-- its answer.
 use Rattle.std.proofs.Common.{◌≡◌, ℕ, ◌<◌, List, length, map, leb, cond, Err, Result, ap, sym, ◌∙◌, lit≤, arith}
 use Rattle.std.proofs.lemmas.Bool.{cond-false, lt-leb}
 use Rattle.row.specs.Faults.{refusal}
@@ -28,7 +29,9 @@ module _ {R : Type 0} (k : Kind R) where
   long-alike : LongAlike (hearing k) line_limit
   long-alike f s t long longer =
       let same = too-long s long ∙ sym (too-long t longer) in
-      let of : Result Message Refusal → Outcome R = λ m. cond (fitting k f.cells f.delta) (in_memory k f.viewer.entries f.cells (hear_message f.viewer.entries (map (cell_of k) f.cells) k.allowed m)) (unfit f) in
+      let of : Result Message Refusal → Outcome R = λ m. cond (fitting k f.cells f.delta)
+      (in_memory k f.viewer.entries f.cells
+      (hear_message f.viewer.entries (map (cell_of k) f.cells) k.allowed m)) (unfit f) in
       (ap (λ m. heard_by k (of m)) same, ap (λ m. answer_text (of m).answer) same)
 
   pub follower-enough : Enough held_limit (hearing k)

@@ -36,12 +36,14 @@ module _ {R : Type 0} (k : Kind R) where
     pub few : n ≤ field_limit
     pub long : length row ≡ field_limit
 
-  -- it is printed as one line, which the reader takes for the update with that ID, and whose list spells a change to each of the row's cells
+  -- it is printed as one line, which the reader takes for the update with that ID, and whose list
+  -- spells a change to each of the row's cells
   pub record PrintedWhole (id n : ℕ) (row : List (records.Cell R)) : Type 0 where
     pub line : row_line k id row n ≡ line_text (row_update k id row n) ++ line_feed ∷ []
     pub unbroken : Unbroken (line_text (row_update k id row n))
     pub update : read_line (line_text (row_update k id row n)) ≡ Ok (laid (row_update k id row n))
-    pub cells : read_list k.allowed n (written_list (changes_of k (whole_changes k row) n)) ≡ Ok (map becomes (fields_of n row))
+    pub cells : read_list k.allowed n (written_list (changes_of k (whole_changes k row) n)) ≡ Ok
+        (map becomes (fields_of n row))
 
   abbrev pub PrintsWhole : Type 0
   PrintsWhole = (id n : ℕ) (row : List (records.Cell R)) → Row id n row → PrintedWhole id n row
@@ -50,9 +52,11 @@ module _ {R : Type 0} (k : Kind R) where
   abbrev pub row_of : ℕ → List (records.Cell R) → List Cell
   row_of n row = fields_of n row ++ replicate (field_limit - n) null
 
-  -- a viewer that hears SUBOK for an ID that one of its entries has, and then the printed line, has that row in the entry's place
+  -- a viewer that hears SUBOK for an ID that one of its entries has, and then the printed line, has
+  -- that row in the entry's place
   abbrev pub RowsHeard : Type 0
   RowsHeard =
       (id n : ℕ) (row : List (records.Cell R)) (es : List Entry) (cs : List Cell) (i : ℕ)
       → Row id n row → length es ≡ tap_limit → length cs ≡ cell_limit → First (opens id n) es i
-      → changed_by_lines k.allowed (es, cs) i (subok_line id n ∷ line_text (row_update k id row n) ∷ []) ≡ row_of n row
+      → changed_by_lines k.allowed (es, cs) i
+      (subok_line id n ∷ line_text (row_update k id row n) ∷ []) ≡ row_of n row

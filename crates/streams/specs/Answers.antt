@@ -1,4 +1,5 @@
--- What is printed of an input: for its lines in order the answer to each, and then what is said at the end.
+-- What is printed of an input: for its lines in order the answer to each, and then what is said at
+-- the end.
 use Rattle.std.specs.Prelude.{◌≡◌, ℕ, ◌+◌, ◌≤◌, List, [], ◌∷◌, ◌++◌, decimal, take}
 use Rattle.streams.specs.Ends.{line_feed}
 use Rattle.streams.specs.Lines.{bare, ended_lines, lines_of}
@@ -14,10 +15,12 @@ abbrev pub answer_line : ℕ → List ℕ → List ℕ
 answer_line n answer = decimal n ++ (answer ++ line_feed ∷ [])
 
 module _ {A : Type 0} (h : Hearing A) where
-  -- each of the lines, the first with the number n, is answered by what heard the lines before it, which then says the rest
+  -- each of the lines, the first with the number n, is answered by what heard the lines before it,
+  -- which then says the rest
   abbrev pub answers : (A → List ℕ) → A → ℕ → List (List ℕ) → List ℕ
   answers rest a n [] = rest a
-  answers rest a n (line ∷ lines) = answer_line n (h.answer a line) ++ answers rest (h.next a line) (n + 1) lines
+  answers rest a n (line ∷ lines) =
+      answer_line n (h.answer a line) ++ answers rest (h.next a line) (n + 1) lines
 
   -- all that is printed of an input
   abbrev pub printed : A → List ℕ → List ℕ

@@ -62,7 +62,9 @@ module _ (limit : ℕ) {A : Type 0} (h : Hearing A) where
 
   -- two blocks one after the other are one block: how the input is cut does not matter
   abbrev pub CutAnywhere : Type 0
-  CutAnywhere = (st : State A) (p q : List ℕ) → fed st (p ++ q) ≡ after (fed st p).text (fed (fed st p).state q)
+  CutAnywhere =
+      (st : State A) (p q : List ℕ) → fed st (p ++ q) ≡ after (fed st p).text
+      (fed (fed st p).state q)
 
   -- a last line that has no end counts, if it has a byte
   abbrev pub last_line : State A → Step A
@@ -70,14 +72,17 @@ module _ (limit : ℕ) {A : Type 0} (h : Hearing A) where
 
   -- the input has ended
   abbrev pub finished : State A → Step A
-  finished st = let last = last_line st in record { state = last.state; text = last.text ++ h.closing last.state.listener }
+  finished st =
+      let last = last_line st in record
+      { state = last.state; text = last.text ++ h.closing last.state.listener }
 
   -- blocks of input, one after the other
   abbrev pub fed_all : State A → List (List ℕ) → Step A
   fed_all st [] = idle st
   fed_all st (b ∷ bs) = let one = fed st b in after one.text (fed_all one.state bs)
 
-  -- what is printed of blocks, fed from the start on, and then of the end, is what is printed of the input's lines
+  -- what is printed of blocks, fed from the start on, and then of the end, is what is printed of
+  -- the input's lines
   abbrev pub PrintsAll : Type 0
   PrintsAll =
       (a : A) (blocks : List (List ℕ)) →
