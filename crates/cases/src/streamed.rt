@@ -1,38 +1,43 @@
 //! A stream of lines, cut into blocks, and answered from a reader to a writer.
-ghost use Rattle.std.specs.Prelude.{ℕ, [], ◌∷◌};
+ghost use Rattle.std.specs.Prelude.{ℕ};
+ghost use Rattle.cases.specs.Echoes.{echoes, echoes-enough};
 
 use row::Fault;
 use std::alloc::AllocError;
 use std::test::*;
 use streams::{Hear, Stream, answer_all, hold, push_refusal};
 
-// Repeats each line.
+// Repeats each line of up to five bytes.
 #[derive(Drop)]
 struct Echo;
 
 impl Hear for Echo {
-    ghost LIMIT = { 6 };
+    ghost LIMIT = { 7 };
 
-    const LIMIT: usize = 6;
+    const LIMIT: usize = 7;
 
-    ghost hearing = { record { next = λ e _. e; answer = λ _ line. 32 ∷ line; closing = λ _. 46 ∷ [] } };
+    ghost hearing = { echoes };
 
     fn hear(&mut self, line: &[u8], out: &mut Vec<u8>) -> Result<(), AllocError> {
+        if line.len() > 5 {
+            return out.extend_from_slice(b" long");
+        }
         out.extend_from_slice(b" ")?;
-        out.extend_from_slice(line)?;
-        Ok(())
+        out.extend_from_slice(line)
     }
 
     fn close(&self, out: &mut Vec<u8>) -> Result<(), AllocError> {
-        out.extend_from_slice(b".")?;
-        Ok(())
+        out.extend_from_slice(b".")
     }
+
+    ghost enough = { echoes-enough };
 }
 
-// Lines end with LF or CR LF, an empty one counts, of a long one six bytes are looked at, and the last needs no end.
+// Lines end with LF or CR LF, an empty one counts, a long one is
+// told by its first seven bytes, and the last needs no end.
 const INPUT: &[u8] = b"ab\r\nc\n\nseventh\r\nlast\r";
 
-const OUTPUT: &[u8] = b"1 ab\n2 c\n3 \n4 sevent\n5 last\r\n.";
+const OUTPUT: &[u8] = b"1 ab\n2 c\n3 \n4 long\n5 last\r\n.";
 
 // The input, cut in several ways.
 const CUTS: [&[&[u8]]; 4] = [

@@ -1,1 +1,4 @@
-pub mod RowLists
+pub mod RowTexts
+pub mod RowLines
+pub mod RowReading
+pub mod RowHearing

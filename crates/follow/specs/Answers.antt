@@ -1,13 +1,15 @@
 -- What is printed: an answer to each line, and at the end the open rows.
-use Rattle.std.specs.Prelude.{ℕ, Some, None, Option, ◌+◌, cond, List, [], ◌∷◌, ◌++◌, map, take, Ok, Err, codes, decimal, Result}
+use Rattle.std.specs.Prelude.{ℕ, Some, None, Option, ◌+◌, ◌&&◌, cond, List, [], ◌∷◌, ◌++◌, Ok, Err, codes, Result}
 use Rattle.row.specs.Faults.{printed}
 use Rattle.row.specs.Kinds.{Kind}
-use Rattle.row.specs.Records.{cell_of}
-use Rattle.row.specs.Rows.{becomes, row_at}
+use Rattle.row.specs.Records.{whole_changes}
+use Rattle.row.specs.Rows.{row_at}
 use Rattle.row.specs.declared.change.Cell.{Cell}
 use Rattle.row.specs.declared.fault.Refusal.{Refusal}
-use Rattle.tlcp.specs.Lists.{written_list}
 use Rattle.tlcp.specs.Written.{covers}
+use Rattle.notify.specs.Given.{Saying, line_text, within}
+use Rattle.notify.specs.Written.{update_of}
+use Rattle.streams.specs.Ends.{line_feed}
 use Rattle.viewer.specs.declared.entry.Entry.{Entry}
 use Rattle.viewer.specs.declared.hear.Heard.{Heard}
 use Rattle.viewer.specs.declared.hear.Heard.TheVariants.{Taken, Passed}
@@ -18,18 +20,24 @@ answer_text (Ok Passed) = codes " passed"
 answer_text (Err r) = codes " no " ++ printed r
 
 module _ {R : Type 0} (k : Kind R) where
-  -- the values of a row's first fields, if a row may have so many
-  abbrev pub list_text : List (Cell R) → ℕ → List ℕ
-  list_text row fields = cond (covers fields) (written_list (take fields (map becomes (map (cell_of k) row)))) []
+  -- the update that gives a viewer's null row the cells of a row, so many fields of it
+  abbrev pub row_update : ℕ → List (Cell R) → ℕ → Saying
+  row_update id row fields = update_of k id (whole_changes k row) fields
 
-  -- a row of an ID and so many fields as a whole U line
-  abbrev pub row_line : ℕ → List (Cell R) → Option ℕ → List ℕ
-  row_line id row None = []
-  row_line id row (Some n) = codes "U," ++ (decimal id ++ (codes ",1," ++ (list_text row n ++ 10 ∷ [])))
+  -- the line that the emulator writes for a row, if there is a subscription with this ID and a row
+  -- of so many fields
+  abbrev pub row_line : ℕ → List (Cell R) → ℕ → List ℕ
+  row_line id row fields =
+      let update = row_update id row fields in
+      cond (within update && covers fields) (line_text update ++ line_feed ∷ []) []
 
-  -- an open entry's row
+  -- a row, if its entry is open
+  abbrev pub open_row : ℕ → List (Cell R) → Option ℕ → List ℕ
+  open_row id row None = []
+  open_row id row (Some fields) = row_line id row fields
+
   abbrev pub row_text : Entry → List (Cell R) → List ℕ
-  row_text e row = row_line e.id row e.fields
+  row_text e row = open_row e.id row e.fields
 
   -- the rows of the entries from the index i on
   abbrev pub rows_from : ℕ → List Entry → List (Cell R) → List ℕ

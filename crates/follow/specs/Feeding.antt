@@ -7,12 +7,12 @@ use Rattle.row.specs.Rows.{same}
 use Rattle.tlcp.specs.Limits.{line_limit}
 use Rattle.viewer.specs.Hearing.{Outcome, heard}
 use Rattle.viewer.specs.Entries.{waiting}
-use Rattle.streams.specs.Feeding as streams
-use Rattle.streams.specs.Feeding.{Hearing}
+use Rattle.streams.specs.Answers.{Hearing}
 use Rattle.follow.specs.Answers.{answer_text, rows_text}
 use Rattle.follow.specs.declared.follower.Follower.{Follower}
 
--- so many bytes are held of a line: enough to tell one that is too long, whether CR LF ends it or LF
+-- so many bytes are held of a line: enough to tell one that is too long, whether CR LF ends it or
+-- LF
 abbrev pub held_limit : ℕ
 held_limit = line_limit + 2
 
@@ -25,7 +25,7 @@ module _ {R : Type 0} (k : Kind R) where
   heard_by o = record { viewer = record { entries = o.entries }; cells = o.cells; delta = o.delta }
 
   -- each line is answered, and at the end the open rows are printed
-  abbrev pub hearing : Hearing held_limit (Follower R)
+  abbrev pub hearing : Hearing (Follower R)
   hearing = record {
     next = λ f line. heard_by (outcome f line);
     answer = λ f line. answer_text (outcome f line).answer;
@@ -39,7 +39,3 @@ module _ {R : Type 0} (k : Kind R) where
     cells = replicate cell_limit (null_cell k);
     delta = replicate field_limit (change_record k same);
   }
-
-  -- all that a follower prints of an input
-  abbrev pub printed : Follower R → List ℕ → List ℕ
-  printed = streams.printed hearing

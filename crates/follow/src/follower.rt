@@ -1,6 +1,7 @@
 //! A viewer of values of a kind, as the listener of a stream.
 ghost use Rattle.std.specs.Prelude.{◌≡◌};
 ghost use Rattle.follow.specs.Feeding.{held_limit, hearing, opened};
+ghost use Rattle.follow.specs.LongLines.{follower-enough};
 
 use crate::print::push_answer;
 use crate::rows::push_rows;
@@ -10,6 +11,7 @@ use streams::Hear;
 use tlcp::LINE_LIMIT;
 use viewer::Viewer;
 
+/// A viewer with its memory: the cells of all taps, and the changes that it is lent for a line.
 #[derive(Drop)]
 pub struct Follower<V> {
     viewer: Viewer,
@@ -33,7 +35,8 @@ impl<V: Value> Follower<V> {
 impl<V: Value> Hear for Follower<V> {
     ghost LIMIT = { held_limit };
 
-    // Enough to tell a line that is too long, whether CR LF ends it or LF.
+    // Enough to tell a line that is too long, whether CR LF ends it or LF: any such line is refused
+    // with 16, whatever it holds.
     const LIMIT: usize = LINE_LIMIT + 2;
 
     ghost hearing = { hearing V.kind };
@@ -47,4 +50,6 @@ impl<V: Value> Hear for Follower<V> {
     fn close(&self, out: &mut Vec<u8>) -> Result<(), AllocError> {
         push_rows(out, &self.viewer, &self.cells)
     }
+
+    ghost enough = { follower-enough V.kind };
 }

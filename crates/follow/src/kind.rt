@@ -25,7 +25,7 @@ impl Worded for Kind {
 
 impl Kind {
     /// The kind that a word stands for.
-    // kept: an Option says all there is; TryFrom would want an error that says no more
+    // An `Option` says all there is; an error of `TryFrom` would say no more.
     pub fn named(word: &str) -> Option<Kind>
         ensures { result ≡ kind_named word.now }
     {

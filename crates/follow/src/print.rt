@@ -8,7 +8,8 @@ use streams::push_refusal;
 use viewer::Heard;
 
 // Appends an answer.
-// kept: ` ok` and ` passed` as bytes; with `write!` `follow` is slower than its plain counterpart
+// ` ok` and ` passed` are bytes: with `write!` `follow` is slower than its plain counterpart
+// (bench/run).
 #[inline(always)]
 pub(crate) fn push_answer(
     out: &mut Vec<u8>,

@@ -5,3 +5,4 @@ pub mod Anew
 pub mod Checking
 pub mod Same
 pub mod Feeding
+pub mod LongLines

@@ -12,7 +12,7 @@ use row::{Fault, Refusal};
 use std::alloc::AllocError;
 use streams::{front, push_refusal};
 
-/// The bytes of a line, without its end.
+/// The bytes that a line may have, without its end.
 pub const SPELLED_LIMIT: usize = 8192;
 
 // Reads the request that a line spells, and writes it anew.
@@ -32,7 +32,7 @@ fn check(line: &[u8], session: u32, text: &mut [u8]) -> Result<usize, Refusal>
 pub(crate) fn push_answer(out: &mut Vec<u8>, line: &[u8], session: u32) -> Result<(), AllocError>
     ensures { OnOk result (out.new.items ≡ out.old.items ++ answer_text (checked session line.now)) }
 {
-    // kept: the request writer holds lent bytes, by the project's rule
+    // the request writer allocates nothing: it writes into bytes that it is lent
     let mut text = [0u8; REQUEST_LIMIT];
     match check(line, session, &mut text) {
         Ok(len) => {

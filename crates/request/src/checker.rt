@@ -1,7 +1,8 @@
 //! Requests checked line by line, as the listener of a stream.
 ghost use Rattle.std.specs.Prelude.{◌≡◌};
-ghost use Rattle.request.specs.Feeding.{hearing};
+ghost use Rattle.request.specs.Feeding.{checker, hearing};
 ghost use Rattle.request.specs.Limits.{held_limit};
+ghost use Rattle.request.specs.LongLines.{checker-enough};
 ghost use Rattle.request.specs.Same.{ShowsSame};
 ghost use Rattle.request.specs.Spelling.{ReadsSpelled};
 
@@ -16,8 +17,10 @@ pub struct Checker {
 }
 
 impl Checker {
+    /// What checks the requests for a session. What it shows of a request is that request again,
+    /// and what it spells on a line stands for the same bytes.
     pub fn new(session: u32) -> Checker
-        ensures session { result ≡ record { session = session } }
+        ensures session { result ≡ checker session }
         ensures same { ShowsSame }
         ensures back { ReadsSpelled }
     {
@@ -28,7 +31,8 @@ impl Checker {
 impl Hear for Checker {
     ghost LIMIT = { held_limit };
 
-    // Enough to tell a line that is too long, whether CR LF ends it or LF.
+    // Enough to tell a line that is too long, whether CR LF ends it or LF: any such line is refused
+    // with 16, whatever it spells.
     const LIMIT: usize = SPELLED_LIMIT + 2;
 
     ghost hearing = { hearing };
@@ -40,4 +44,6 @@ impl Hear for Checker {
     fn close(&self, _out: &mut Vec<u8>) -> Result<(), AllocError> {
         Ok(())
     }
+
+    ghost enough = { checker-enough };
 }

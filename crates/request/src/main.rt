@@ -1,9 +1,9 @@
 //! Checks requests, one on each line of standard input, as the emulator would read them.
 #![tactic(auto)]
 
-ghost use Rattle.std.specs.Prelude.{◌+◌, ◌^◌, ◌<◌, length, IfSome, OnOk};
-ghost use Rattle.std.specs.Io.KnownBytes.{Appends};
-ghost use Rattle.request.specs.Feeding.{printed};
+ghost use Rattle.std.specs.Prelude.{OnOk};
+ghost use Rattle.streams.specs.Answered.{AnswersAll, AnswersSoFar, OnReadFailure};
+ghost use Rattle.request.specs.Feeding.{checker, hearing};
 
 mod anew;
 mod answer;
@@ -17,14 +17,15 @@ use anyhow::{Context, ensure};
 use checker::Checker;
 use session::session_named;
 use std::env;
-use std::io::{self, Read, Write};
-use streams::answer_all;
+use std::io::{Read, Write};
+use streams::{Failure, answer_all};
 
 // What is said of any other arguments.
 const USAGE: &str = "the session's number is 1 to 99999";
 
 // The session that the program's arguments name, behind its own name: the first where they name none.
-// kept: like `chosen` of `follow`; one function of both takes a default, a usage and a closure, for these five lines
+// Like `chosen` of `follow`: one function for both would take a default, a usage and a closure, for
+// these five lines.
 fn chosen(rt: &HostRuntime) -> anyhow::Result<u32> {
     let mut words = env::args(rt)?;
     let _ = words.next();
@@ -41,8 +42,13 @@ pub fn check<R: Read, W: Write>(
     session: u32,
     input: &mut R,
     output: &mut W,
-) -> io::Result<()>
-    ensures { OnOk result (IfSome (R.remaining input.old) (λ s. length s + 1 < 2 ^ 64 → Appends (W.contents output.old) (W.contents output.new) (printed session s))) }
+) -> Result<(), Failure>
+    ensures all { OnOk result
+        (AnswersAll hearing (checker session) (R.remaining input.old) (R.remaining input.new)
+        (W.contents output.old) (W.contents output.new)) }
+    ensures so_far { OnReadFailure result
+        (AnswersSoFar hearing (checker session) (R.remaining input.old) (R.remaining input.new)
+        (W.contents output.old) (W.contents output.new)) }
 {
     answer_all(rt, Checker::new(session), input, output)
 }

@@ -10,7 +10,8 @@ const SESSIONS: Limits = Limits {
 };
 
 /// The session that a word names.
-// kept: an Option says all there is; TryFrom would want an error that says no more, and a type of its own
+// An `Option` says all there is; `TryFrom` would want a type for a session's number, and an error
+// that says no more.
 pub fn session_named(word: &str) -> Option<u32>
     ensures { result ≡ session_named word.now }
 {

@@ -2,5 +2,5 @@
 use Rattle.std.specs.Prelude.{ℕ}
 
 -- LF
-abbrev pub line_end : ℕ
-line_end = 10
+abbrev pub line_feed : ℕ
+line_feed = 10

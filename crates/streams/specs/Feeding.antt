@@ -1,16 +1,12 @@
--- What the input does to whatever hears its lines, byte by byte, and what is printed of it.
-use Rattle.std.specs.Prelude.{◌≡◌, ℕ, ◌+◌, ◌-◌, ◌^◌, min, cond, List, [], ◌∷◌, ◌++◌, length, decimal, ◌==◌, nat_lt}
+-- What blocks of input do, byte by byte, to whatever hears the lines.
+use Rattle.std.specs.Prelude.{◌≡◌, ℕ, ◌+◌, ◌-◌, ◌^◌, ◌<◌, min, cond, List, [], ◌∷◌, ◌++◌, length, ◌==◌, nat_lt}
 use Rattle.std.specs.List.{flat_map}
-use Rattle.streams.specs.Ends.{line_end}
-use Rattle.streams.specs.Held.{bare, kept}
+use Rattle.streams.specs.Answers.{Hearing, answer_line, printed}
+use Rattle.streams.specs.Ends.{line_feed}
+use Rattle.streams.specs.Held.{held_with}
+use Rattle.streams.specs.Lines.{bare}
 
--- what becomes of a listener that hears a line, what it answers, and what it says at the end; of a line so many bytes are held
-pub record Hearing (limit : ℕ) (A : Type 0) : Type 0 where
-  pub next : A → List ℕ → A
-  pub answer : A → List ℕ → List ℕ
-  pub closing : A → List ℕ
-
--- a listener, the bytes of a line that has not ended, and how many lines have
+-- a listener, the first bytes of a line that has not ended, and how many lines have
 pub record State (A : Type 0) : Type 0 where
   pub listener : A
   pub held : List ℕ
@@ -29,10 +25,6 @@ fresh a = record { listener = a; held = []; count = 0 }
 abbrev pub next : ℕ → ℕ
 next n = min (n + 1) (2 ^ 64 - 1)
 
--- the answer to the line with the number n, as it is printed
-abbrev pub answer_line : ℕ → List ℕ → List ℕ
-answer_line n answer = decimal n ++ (answer ++ line_end ∷ [])
-
 -- nothing is printed
 abbrev pub idle : {A : Type 0} → State A → Step A
 idle st = record { state = st; text = [] }
@@ -41,10 +33,11 @@ idle st = record { state = st; text = [] }
 abbrev pub after : {A : Type 0} → List ℕ → Step A → Step A
 after t s = record { state = s.state; text = t ++ s.text }
 
-module _ {limit : ℕ} {A : Type 0} (h : Hearing limit A) where
+-- so many bytes are held of a line, and h is what comes of it
+module _ (limit : ℕ) {A : Type 0} (h : Hearing A) where
   -- further bytes of a line that has not ended
   abbrev pub keep : State A → List ℕ → State A
-  keep st s = record { listener = st.listener; held = kept limit st.held s; count = st.count }
+  keep st s = record { listener = st.listener; held = held_with limit st.held s; count = st.count }
 
   -- a line is heard, and nothing is held
   abbrev pub hear_line : State A → List ℕ → Step A
@@ -61,7 +54,7 @@ module _ {limit : ℕ} {A : Type 0} (h : Hearing limit A) where
   fed_byte st b =
       let more = idle (keep st (b ∷ [])) in
       let line = ended st in
-      cond (b == line_end) line more
+      cond (b == line_feed) line more
 
   abbrev pub fed : State A → List ℕ → Step A
   fed st [] = idle st
@@ -69,7 +62,9 @@ module _ {limit : ℕ} {A : Type 0} (h : Hearing limit A) where
 
   -- two blocks one after the other are one block: how the input is cut does not matter
   abbrev pub CutAnywhere : Type 0
-  CutAnywhere = (st : State A) (p q : List ℕ) → fed st (p ++ q) ≡ after (fed st p).text (fed (fed st p).state q)
+  CutAnywhere =
+      (st : State A) (p q : List ℕ) → fed st (p ++ q) ≡ after (fed st p).text
+      (fed (fed st p).state q)
 
   -- a last line that has no end counts, if it has a byte
   abbrev pub last_line : State A → Step A
@@ -77,17 +72,20 @@ module _ {limit : ℕ} {A : Type 0} (h : Hearing limit A) where
 
   -- the input has ended
   abbrev pub finished : State A → Step A
-  finished st = let last = last_line st in record { state = last.state; text = last.text ++ h.closing last.state.listener }
-
-  -- all that is printed of an input
-  abbrev pub printed : A → List ℕ → List ℕ
-  printed a input = let all = fed (fresh a) input in all.text ++ (finished all.state).text
+  finished st =
+      let last = last_line st in record
+      { state = last.state; text = last.text ++ h.closing last.state.listener }
 
   -- blocks of input, one after the other
   abbrev pub fed_all : State A → List (List ℕ) → Step A
   fed_all st [] = idle st
   fed_all st (b ∷ bs) = let one = fed st b in after one.text (fed_all one.state bs)
 
-  -- what is printed of blocks, fed from the start on, and then of the end is what is printed of the whole input
+  -- what is printed of blocks, fed from the start on, and then of the end, is what is printed of
+  -- the input's lines
   abbrev pub PrintsAll : Type 0
-  PrintsAll = (a : A) (blocks : List (List ℕ)) → let all = fed_all (fresh a) blocks in all.text ++ (finished all.state).text ≡ printed a (flat_map (λ b. b) blocks)
+  PrintsAll =
+      (a : A) (blocks : List (List ℕ)) →
+      let input = flat_map (λ b. b) blocks in
+      let all = fed_all (fresh a) blocks in
+      length input < 2 ^ 64 → all.text ++ (finished all.state).text ≡ printed h a input

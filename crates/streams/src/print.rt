@@ -7,7 +7,8 @@ use row::Refusal;
 use std::alloc::AllocError;
 
 // Appends a number in decimal.
-// kept: bytes; with `write!`, which takes 200 instructions more a line, `follow` is slower than its plain counterpart
+// With `write!`, which takes 200 instructions more a line, `follow` is slower than its plain
+// counterpart (bench/run).
 #[inline(always)]
 pub(crate) fn push_number(out: &mut Vec<u8>, n: u64) -> Result<(), AllocError>
     ensures { OnOk result (out.new.items ≡ out.old.items ++ decimal n) }
@@ -16,7 +17,7 @@ pub(crate) fn push_number(out: &mut Vec<u8>, n: u64) -> Result<(), AllocError>
     Ok(())
 }
 
-/// Appends a refusal as the answer to a line.
+/// Appends a refusal as the answer to a line: ` no `, its number and its place.
 pub fn push_refusal(out: &mut Vec<u8>, refusal: Refusal) -> Result<(), AllocError>
     ensures { OnOk result (out.new.items ≡ out.old.items ++ (codes " no " ++ printed refusal)) }
 {

@@ -1,6 +1,6 @@
 use Rattle.std.proofs.Common.{◌≡◌, ◌+◌, ◌*◌, length, drop}
 use Rattle.tlcp.specs.Parts.{place_of}
-use Rattle.streams.specs.Ends.{line_end}
+use Rattle.streams.specs.Ends.{line_feed}
 use Rattle.streams.proofs.ends.find_end.Given as goal
 
 -- no line ends in the parts that came
@@ -11,5 +11,5 @@ invariant-loop-i l = record {
   size : l.i-iterator.iter.size ≡ 16;
   left : l.i-iterator.iter.rest.now ≡ drop (16 * l.i-iterator.count) l.s;
   long : 16 * l.i-iterator.count + length l.i-iterator.iter.rest.now ≡ length l.s;
-  place : 16 * l.i-iterator.count + place_of line_end l.i-iterator.iter.rest.now ≡ place_of line_end l.s;
+  place : 16 * l.i-iterator.count + place_of line_feed l.i-iterator.iter.rest.now ≡ place_of line_feed l.s;
 }
