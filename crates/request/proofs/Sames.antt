@@ -11,7 +11,7 @@ use Rattle.row.specs.Texts.{every, is_byte, padded}
 use Rattle.tlcp.specs.Bytes.{is_hex, is_plain}
 use Rattle.tlcp.specs.Escapes.{Decodes, nothing, plain, escape, hex_value}
 use Rattle.tlcp.specs.Limits.{id_limit}
-use Rattle.tlcp.specs.Numbers.{number_of}
+use Rattle.tlcp.specs.Numbers.{read_number}
 use Rattle.tlcp.specs.Written.{fits, no_room}
 use Rattle.tlcp.proofs.Numerals.{reads-decimal}
 use Rattle.requests.specs.Asked.{Given, Sound, Apart, Formed, creates, binds, adds, deletes, rebinds, Right, found}
@@ -68,7 +68,7 @@ hidden : Fine (codes "redacted")
 hidden = fine-word (codes "redacted") refl (lit≤ tt)
 
 -- an ID is read as the number that it is
-number-again : (n : ℕ) (t : List ℕ) → t ≡ decimal n → 1 ≤ n → n ≤ id_limit → unwrap_or (number_of 1 id_limit t) 0 ≡ n
+number-again : (n : ℕ) (t : List ℕ) → t ≡ decimal n → 1 ≤ n → n ≤ id_limit → unwrap_or (read_number 1 id_limit t) 0 ≡ n
 number-again n t is low high = ap (λ o. unwrap_or o 0) ((reads-decimal 1 id_limit n t (lit< tt)).1 is low high)
 
 -- what is written for a request keeps the rules of a form, and asks for what is shown of the request

@@ -7,7 +7,7 @@ use Rattle.std.proofs.lemmas.Bool.{and_from, and_left, and_right, both_ways, con
 use Rattle.std.proofs.lemmas.Bool.Decides.{nat_tests}
 use Rattle.std.proofs.lemmas.Grind.{common_steps}
 use Rattle.tlcp.specs.Lines.{and_then}
-use Rattle.tlcp.specs.Dividing.{divided_by, ends_here, has, joined_by, line_end}
+use Rattle.tlcp.specs.Dividing.{divided_by, ends_here, has, joined_by, crlf_at}
 use Rattle.tlcp.proofs.Dividing.{divided-joined, joined-divided}
 use Rattle.tlcp.proofs.Words.{first_word}
 use Rattle.requests.specs.Asked.{Asks, Given, ReadsAsked, Sound, found, spelling}
@@ -26,16 +26,16 @@ use Rattle.requests.proofs.Pairing.{Listed, all_read, none_has, ok-where, read_a
 ends_with : (b : ℕ) (s : List ℕ) → ends_here (b ∷ s) ≡ true → b ∷ s ≡ 13 ∷ 10 ∷ drop 2 (b ∷ s)
 ends_with b s e = grind (arith, nat_tests, common_steps)
 
-line-whole : (s : List ℕ) → line_end s < length s → take (line_end s) s ++ (13 ∷ 10 ∷ drop (line_end s + 2) s) ≡ s
+line-whole : (s : List ℕ) → crlf_at s < length s → take (crlf_at s) s ++ (13 ∷ 10 ∷ drop (crlf_at s + 2) s) ≡ s
 line-whole [] = λ h. absurd (omega arith)
 line-whole (b ∷ s) =
-    cond_both (ends_here (b ∷ s)) 0 (suc (line_end s)) (λ n. n < length (b ∷ s) → take n (b ∷ s) ++ (13 ∷ 10 ∷ drop (n + 2) (b ∷ s)) ≡ b ∷ s)
+    cond_both (ends_here (b ∷ s)) 0 (suc (crlf_at s)) (λ n. n < length (b ∷ s) → take n (b ∷ s) ++ (13 ∷ 10 ∷ drop (n + 2) (b ∷ s)) ≡ b ∷ s)
     (λ here h. sym (ends_with b s here))
     (λ _ h.
-    let next : suc (line_end s) + 2 ≡ suc (line_end s + 2) = omega arith in
-    ap (λ n. b ∷ (take (line_end s) s ++ (13 ∷ 10 ∷ drop n (b ∷ s)))) next ∙ ap (λ t. b ∷ t) (line-whole s (omega arith)))
+    let next : suc (crlf_at s) + 2 ≡ suc (crlf_at s + 2) = omega arith in
+    ap (λ n. b ∷ (take (crlf_at s) s ++ (13 ∷ 10 ∷ drop n (b ∷ s)))) next ∙ ap (λ t. b ∷ t) (line-whole s (omega arith)))
 
-line-end : (w s : List ℕ) → has 13 w ≡ false → line_end (w ++ (13 ∷ 10 ∷ s)) ≡ length w
+line-end : (w s : List ℕ) → has 13 w ≡ false → crlf_at (w ++ (13 ∷ 10 ∷ s)) ≡ length w
 line-end [] s e = cond-true (ends_here (13 ∷ 10 ∷ s)) 0 _ (and_from _ _ (le-leb 2 (length (13 ∷ 10 ∷ s)) (omega arith)) refl)
 line-end (b ∷ w) s e =
     let (other, more) = or_parts (eqb b 13) (has 13 w) e in
@@ -67,19 +67,19 @@ body-read session s at (Some n) q e = let (ps, pairs, asked) = then_ok (read_pai
 asks : (session : ℕ) (s : List ℕ) (q : Request) → read_request session s ≡ Ok q → Asks session s q
 asks session s q e =
     let (short, rest) = ok-where (leb (length s) request_limit) _ _ q e in
-    let (inside, body) = ok-where (ltb (line_end s) (length s)) _ _ q rest in
-    let at = line_end s + 2 in
-    let (n, ps, name, pairs, asked) = body-read session s at (name_of (take (line_end s) s)) q body in
+    let (inside, body) = ok-where (ltb (crlf_at s) (length s)) _ _ q rest in
+    let at = crlf_at s + 2 in
+    let (n, ps, name, pairs, asked) = body-read session s at (name_of (take (crlf_at s) s)) q body in
     let (gs, spelled, all, apart, texts) = all_read n at (divided_by 38 (drop at s)) ps pairs in
     let meets = subst (λ look. Meets session n look q) texts (named-read session (length s) n ps q asked) in
-    let word = first_word name_word names (take (line_end s) s) n name in
+    let word = first_word name_word names (take (crlf_at s) s) n name in
     let joined = sym (joined-divided 38 (drop at s)) ∙ ap (joined_by 38) (sym spelled) in
     record {
       name = n;
       form = meets.form;
       pairs = gs;
       short = leb-true (length s) request_limit short;
-      whole = sym (line-whole s (ltb-true (line_end s) (length s) inside)) ∙ (λ i. word i ++ (13 ∷ 10 ∷ joined i));
+      whole = sym (line-whole s (ltb-true (crlf_at s) (length s) inside)) ∙ (λ i. word i ++ (13 ∷ 10 ∷ joined i));
       sound = All-weaker (Listed n) Sound (λ g h. h.0) gs all;
       apart = apart;
       formed = meets.formed;
@@ -95,11 +95,11 @@ read-line session n t short =
     let w = name_word n in
     let s = w ++ (13 ∷ 10 ∷ t) in
     let end = line-end w t (named n).1 in
-    let inside : line_end s < length s = omega (arith, length-append w (13 ∷ 10 ∷ t)) in
+    let inside : crlf_at s < length s = omega (arith, length-append w (13 ∷ 10 ∷ t)) in
     let name = ap name_of (take_at w (13 ∷ 10 ∷ t) (length w) refl) ∙ (named n).0 in
     let rest = sym (drop-drop 2 (length w) s) ∙ ap (drop 2) (drop_at w (13 ∷ 10 ∷ t) (length w) refl) in
     cond-true _ _ _ (le-leb (length s) request_limit short)
-    ∙ cond-true _ _ _ (lt-ltb (line_end s) (length s) inside)
+    ∙ cond-true _ _ _ (lt-ltb (crlf_at s) (length s) inside)
     ∙ ap (λ m. read_body session s (m + 2) (name_of (take m s))) end
     ∙ ap (read_body session s (length w + 2)) name
     ∙ ap (λ u. and_then (read_pairs n (length w + 2) (divided_by 38 u) no_pairs) (read_named session (length s) n)) rest

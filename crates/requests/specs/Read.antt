@@ -9,7 +9,7 @@ use Rattle.tlcp.specs.Bounds as bounds
 use Rattle.tlcp.specs.declared.bounded.Bounded.{Bounded}
 
 abbrev pub word_text : Bounded value_limit → List ℕ
-word_text = bounds.text_of
+word_text = bounds.bounded_text
 
 abbrev pub pair_in : Pair → asked.Pair
 pair_in p = record { at = p.at; value_at = p.value_at; text = word_text p.word }

@@ -8,9 +8,9 @@ use Rattle.std.specs.Result.{result_map_both}
 use Rattle.row.specs.declared.fault.Fault.TheVariants.{Shape, Unknown, Parts, Value, Length}
 use Rattle.row.specs.declared.fault.Refusal.{Refusal}
 use Rattle.tlcp.specs.Limits.{id_limit}
-use Rattle.tlcp.specs.Numbers.{number_of}
+use Rattle.tlcp.specs.Numbers.{read_number}
 use Rattle.tlcp.specs.Parts.{before, behind, place_of}
-use Rattle.tlcp.specs.Dividing.{divided_by, line_end}
+use Rattle.tlcp.specs.Dividing.{divided_by, crlf_at}
 use Rattle.requests.specs.Limits.{request_limit}
 use Rattle.requests.specs.Names.{index_of, parameter_count, parameter_of, name_of, first_needs, operation_of, needs, takes, is_in}
 use Rattle.requests.specs.Values.{read_value, fitting, fault_of}
@@ -122,7 +122,7 @@ module _ (look : Parameter → Option (List ℕ)) where
   word_of p = unwrap_or (look p) []
 
   abbrev pub id_of : ℕ
-  id_of = unwrap_or (number_of 1 id_limit (word_of SubscriptionId)) 0
+  id_of = unwrap_or (read_number 1 id_limit (word_of SubscriptionId)) 0
 
   abbrev pub request_of : Form → Request
   request_of Create = create (word_of Cid) (look User) (look Password)
@@ -150,5 +150,5 @@ read_body session s at (Some n) = and_then (read_pairs n at (divided_by 38 (drop
 
 abbrev pub read_request : ℕ → List ℕ → Result Request Refusal
 read_request session s =
-    let body = read_body session s (line_end s + 2) (name_of (take (line_end s) s)) in
-    cond (nat_le (length s) request_limit) (cond (nat_lt (line_end s) (length s)) body (Err (refusal Shape (length s)))) (Err (refusal Length 0))
+    let body = read_body session s (crlf_at s + 2) (name_of (take (crlf_at s) s)) in
+    cond (nat_le (length s) request_limit) (cond (nat_lt (crlf_at s) (length s)) body (Err (refusal Shape (length s)))) (Err (refusal Length 0))

@@ -1,7 +1,7 @@
 //! The pairs of a request that has all that its form needs.
 ghost use Rattle.std.specs.Prelude.{◌≡◌, false, None};
 ghost use Rattle.tlcp.specs.Limits.{id_limit};
-ghost use Rattle.tlcp.specs.Numbers.{number_of};
+ghost use Rattle.tlcp.specs.Numbers.{read_number};
 ghost use Rattle.std.specs.Result.{result_map_both};
 ghost use Rattle.requests.specs.Answers.{request_in};
 ghost use Rattle.requests.specs.Names.{needs};
@@ -39,7 +39,7 @@ impl Whole<'_> {
 
     // The ID of a subscription, if the value is one.
     fn subscription(&self) -> Option<u32>
-        ensures { result ≡ number_of 1 id_limit (value_of SubscriptionId (pairs_in self.now.pairs.now)) }
+        ensures { result ≡ read_number 1 id_limit (value_of SubscriptionId (pairs_in self.now.pairs.now)) }
     {
         let id = self.pairs.word(Parameter::SubscriptionId)?;
         read_number(id.text(), Limits::ID)
