@@ -1,3 +1,4 @@
-pub mod Rows
 pub mod Entries
+pub mod Effects
 pub mod Hearing
+pub mod Laws

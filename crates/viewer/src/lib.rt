@@ -3,7 +3,9 @@
 
 mod entry;
 mod hear;
+mod laws;
 mod rows;
 
 pub use entry::Entry;
 pub use hear::{Heard, Viewer};
+pub use laws::hearing_keeps_its_laws;
