@@ -30,7 +30,7 @@ use Rattle.viewer.specs.declared.hear.Heard.TheVariants.{Taken, Passed}
 use Rattle.viewer.proofs.Asking.{asks-read, asks-one}
 use Rattle.viewer.proofs.Finding.{Finds, none, one, found, finds, first-found, none-found}
 use Rattle.viewer.proofs.Finding.{true-some}
-use Rattle.viewer.proofs.Places.{length-with, row-with, row-others, length-row}
+use Rattle.row.proofs.Places.{length-with, row-with, row-others, length-row}
 use Rattle.viewer.proofs.Values.{read-allowed, filled-allowed, changed-allowed, row-allowed}
 use Rattle.viewer.proofs.Values.{with-allowed}
 

@@ -28,7 +28,7 @@ use Rattle.viewer.specs.declared.entry.Entry.{Entry}
 use Rattle.viewer.specs.declared.hear.Heard.TheVariants.{Taken}
 use Rattle.viewer.proofs.Values.{read-allowed, filled-allowed, row-allowed}
 use Rattle.viewer.proofs.Keeping.{hearing-laws, touched-cells, with_touched}
-use Rattle.viewer.proofs.Places.{length-row, map-row, map-with, row-with}
+use Rattle.row.proofs.Places.{length-row, map-row, map-with, row-with}
 
 module _ {R : Type 0} (k : Kind R) where
   module _ (law : Lawful k) where

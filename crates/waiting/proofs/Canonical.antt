@@ -1,48 +1,24 @@
--- Rows among others, and changes by the records of their meaning.
+-- Changes by the records of their meaning.
 use Rattle.std.proofs.Common.{◌≡◌, ℕ, ◌+◌, ◌*◌, ◌≤◌, Bool, true, false, cond, nat_le, Ok, Err, Result, List, [], ◌∷◌, ◌++◌, map, length, take, drop, replicate, sym, refl, ap, ◌∙◌, arith}
 use Rattle.std.specs.Prelude.{◌==◌, ◌&&◌}
 use Rattle.std.proofs.lemmas.Bool.{and_from, cond-true, eq-eqb, le-leb}
-use Rattle.std.proofs.lemmas.List.{length-append, length-drop, length-map, length-take-le, map-append, take-append-drop, take-map, drop-map, drop-drop}
+use Rattle.std.proofs.lemmas.List.{length-map, map-append, drop-map}
 use Rattle.row.specs.Canonical.{canonical-map, later-means, means-canonical}
 use Rattle.row.specs.Kinds.{Kind, Lawful}
 use Rattle.row.specs.Limits.{field_limit}
 use Rattle.row.specs.Records.{canonical, change_of, change_record, joined_changes, memory_refusal}
-use Rattle.row.specs.Rows.{same, blank, join, row_at, with_row}
+use Rattle.row.specs.Rows.{same, blank, join, with_row}
+use Rattle.row.proofs.Places.{map-with}
 use Rattle.row.specs.declared.change.Change.{Change}
 use Rattle.row.specs.declared.fault.Refusal.{Refusal}
 use Rattle.waiting.specs.Lists.{widened}
 use Rattle.waiting.specs.ListsLaws.{length-join, widened-behind}
 use Rattle.waiting.specs.Rows.{has_row, widened_changes}
 
-module _ {X : Type 0} (i : ℕ) (places : List X) where
-  pub with_row-own : with_row i (row_at i places) places ≡ places
-  with_row-own =
-      ap (λ l. take (field_limit * i) places ++ (row_at i places ++ l)) (sym (drop-drop field_limit (field_limit * i) places))
-      ∙ ap (λ l. take (field_limit * i) places ++ l) (take-append-drop field_limit (drop (field_limit * i) places))
-      ∙ take-append-drop (field_limit * i) places
-
-  pub length-row_at : field_limit * i + field_limit ≤ length places → length (row_at i places) ≡ field_limit
-  length-row_at h = length-take-le field_limit (drop (field_limit * i) places) (omega (arith, length-drop (field_limit * i) places))
-
-  pub length-with_row : (row : List X) → field_limit * i + field_limit ≤ length places → length row ≡ field_limit → length (with_row i row places) ≡ length places
-  length-with_row row h long =
-      let front = take (field_limit * i) places in
-      let back = drop (field_limit * i + field_limit) places in
-      omega (arith, long, length-append front (row ++ back), length-append row back, length-take-le (field_limit * i) places (omega arith), length-drop (field_limit * i + field_limit) places)
-
-pub map-around : {X Y : Type 0} (f : X → Y) (i m : ℕ) (ys xs : List X) → map f (take i xs ++ (ys ++ drop m xs)) ≡ take i (map f xs) ++ (map f ys ++ drop m (map f xs))
-map-around f i m ys xs =
-    map-append f (take i xs) (ys ++ drop m xs)
-    ∙ ap (λ l. map f (take i xs) ++ l) (map-append f ys (drop m xs))
-    ∙ (λ j. sym (take-map f i xs) j ++ (map f ys ++ sym (drop-map f m xs) j))
-
-pub map-with_row : {X Y : Type 0} (f : X → Y) (i : ℕ) (row places : List X) → map f (with_row i row places) ≡ with_row i (map f row) (map f places)
-map-with_row f i = map-around f (field_limit * i) (field_limit * i + field_limit)
-
 module _ {R : Type 0} (k : Kind R) where
   -- the records of rows and of what is around them
   pub canonical-with_row : (i : ℕ) (row cs : List (Change R)) → row ≡ map (canonical k) row → cs ≡ map (canonical k) cs → with_row i row cs ≡ map (canonical k) (with_row i row cs)
-  canonical-with_row i row cs e f = (λ j. with_row i (e j) (f j)) ∙ sym (map-with_row (canonical k) i row cs)
+  canonical-with_row i row cs e f = (λ j. with_row i (e j) (f j)) ∙ sym (map-with (canonical k) i row cs)
 
   module _ (law : Lawful k) where
     -- the records of a join mean the join

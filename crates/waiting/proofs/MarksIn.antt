@@ -22,7 +22,8 @@ use Rattle.waiting.specs.MarksLaws.{joined-above, joined-own, not_for, others_ab
 use Rattle.waiting.specs.Layouts.{Exact}
 use Rattle.waiting.specs.Policies.{first}
 use Rattle.waiting.specs.Rows.{has_row}
-use Rattle.waiting.proofs.Canonical.{with_row-own, length-row_at, length-with_row, length-joined_changes, canonical-with_row, canonical-joined, joined-means}
+use Rattle.row.proofs.Places.{length-row, length-with, with_row-own}
+use Rattle.waiting.proofs.Canonical.{length-joined_changes, canonical-with_row, canonical-joined, joined-means}
 
 -- what waits for lower taps in front
 abbrev below : ℕ → List Pair → Bool
@@ -149,7 +150,7 @@ module _ {R : Type 0} (k : Kind R) where
         ∙ (λ j. front ++ (pair_of_changes (t + i) (means (take_at row rest field_limit h j)) ++ marks_in k (n - (i + 1)) (t + i + 1) (drop_at row rest field_limit h j)))
 
     long-row : length (row_at i cs) ≡ field_limit
-    long-row = length-row_at i cs (omega arith)
+    long-row = length-row i cs (omega arith)
 
     marks-was : marks_in k n t cs ≡ front ++ (pair_of_changes (t + i) (means (row_at i cs)) ++ back)
     marks-was = ap (marks_in k n t) (sym (with_row-own i cs)) ∙ marks-split (row_at i cs) long-row
@@ -222,7 +223,7 @@ module _ {R : Type 0} (k : Kind R) where
     row-exact : row ≡ map (canonical k) row → Exact k tap_rows cs (marks_of k cs) → Exact k tap_rows new (marks_of k new)
     row-exact e h =
         subst (λ x. Exact k tap_rows x (marks_of k x)) (sym put)
-        (marks-exact (with_row i row cs) (length-with_row i cs row (omega arith) whole ∙ long) (canonical-with_row k i row cs e (exact-canonical cs long h)))
+        (marks-exact (with_row i row cs) (length-with i row cs whole (omega arith) ∙ long) (canonical-with_row k i row cs e (exact-canonical cs long h)))
 
     row-cleared : all_same (means row) ≡ true → marks_of k new ≡ without (1 + i) (marks_of k cs)
     row-cleared e = ap (marks_of k) put ∙ marks-cleared tap_limit 1 i cs inside long row whole e
@@ -250,7 +251,7 @@ module _ {R : Type 0} (k : Kind R) where
     -- after `join_row`
     module _ (law : Lawful k) (delta : List (Change R)) (whole : length delta ≡ field_limit) (put : new ≡ with_row i (joined_changes k (row_at i cs) delta) cs) where
       long-joined : length (joined_changes k (row_at i cs) delta) ≡ field_limit
-      long-joined = length-joined_changes k (row_at i cs) delta ∙ length-row_at i cs (omega arith)
+      long-joined = length-joined_changes k (row_at i cs) delta ∙ length-row i cs (omega arith)
 
       pub joined-exact : Exact k tap_rows cs (marks_of k cs) → Exact k tap_rows new (marks_of k new)
       joined-exact = row-exact cs new (joined_changes k (row_at i cs) delta) i long inside put long-joined (canonical-joined k law (row_at i cs) delta)

@@ -19,7 +19,7 @@ use Rattle.waiting.specs.Layouts.{Exact}
 use Rattle.waiting.specs.Policies.{drop_answer}
 use Rattle.waiting.specs.Queues.{pairs_in, queue, queue_rows, rows_of}
 use Rattle.waiting.specs.Rows.{rows_wait}
-use Rattle.waiting.proofs.Canonical.{map-with_row}
+use Rattle.row.proofs.Places.{map-with}
 
 module _ {X : Type 0} (xs : List X) where
   next : (i : ℕ) → field_limit * suc i ≡ field_limit + field_limit * i
@@ -188,7 +188,7 @@ module _ {R : Type 0} (k : Kind R) (cs : List (Change R)) (l : List Pair) (liste
   pub exact-pushed : (t : ℕ) (d : List rows.Change) → length l < pair_limit → length d ≡ field_limit → Exact k queue_rows (with_row (length l) (map (change_record k) d) cs) (l ++ pair t d ∷ [])
   exact-pushed t d room whole =
       ap (λ m. with_row (length l) (map (change_record k) d) m) old
-      ∙ sym (map-with_row (change_record k) (length l) d (queue_rows l))
+      ∙ sym (map-with (change_record k) (length l) d (queue_rows l))
       ∙ ap (map (change_record k)) (lays-pushed pair_limit l (and_parts (nat_le (length l) pair_limit) _ listed).1 t d whole room)
 
 module _ {R : Type 0} (k : Kind R) where

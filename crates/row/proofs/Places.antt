@@ -1,11 +1,11 @@
--- A row among those of all taps.
+-- A row of twelve places among several.
 use Rattle.std.proofs.Common.{◌≡◌, ◌≢◌, ℕ, ◌+◌, ◌-◌, ◌*◌, ◌≤◌, ◌<◌, List, ◌++◌, length}
 use Rattle.std.proofs.Common.{map}
 use Rattle.std.proofs.Common.{take, drop, sym, ap, ◌∙◌, append_assoc, arith, ⊎_elim}
 use Rattle.std.proofs.lemmas.Bool.{cases_lt}
 use Rattle.std.proofs.lemmas.List.{length-append, length-take-le, length-drop, take_at, drop_at}
 use Rattle.std.proofs.lemmas.List.{drop-append-le, take-append-le, drop-take, take-take, drop-drop}
-use Rattle.std.proofs.lemmas.List.{take-map, drop-map, map-append}
+use Rattle.std.proofs.lemmas.List.{take-map, drop-map, map-append, take-append-drop}
 use Rattle.row.specs.Limits.{field_limit}
 use Rattle.row.specs.Rows.{row_at, with_row}
 
@@ -68,6 +68,14 @@ module _ {X : Type 0} (i : ℕ) (r cs : List X) (whole : length r ≡ field_limi
   pub row-others : (j : ℕ) → j ≢ i → row_at j (with_row i r cs) ≡ row_at j cs
   row-others j ne =
       ⊎_elim (row-before j) (λ ge. row-behind j (let h : i < j = omega arith in h)) (cases_lt j i)
+
+-- a row put where it stands
+pub with_row-own : {X : Type 0} (i : ℕ) (cs : List X) → with_row i (row_at i cs) cs ≡ cs
+with_row-own i cs =
+    let n = field_limit * i in
+    ap (λ l. take n cs ++ (row_at i cs ++ l)) (sym (drop-drop field_limit n cs))
+    ∙ ap (λ l. take n cs ++ l) (take-append-drop field_limit (drop n cs))
+    ∙ take-append-drop n cs
 
 pub length-row :
     {X : Type 0} (i : ℕ) (cs : List X) → field_limit * i + field_limit ≤ length cs
