@@ -62,14 +62,14 @@ pub(crate) fn change_of<R: Sample>(field: u8) -> Result<Change<R>, Fail> {
     }
 }
 
-// Puts the delta of a text for a tap, and answers what the buffer does.
-pub(crate) fn put<'a, R: Sample, W: Waiting<'a, R>>(
+// Puts the delta of a text for a tap, no longer than the text, and answers what the buffer does.
+pub(crate) fn put<R: Sample, W: Waiting<R>>(
     alloc: Global,
     buffer: &mut W,
     tap: usize,
     text: Spelling<'_>,
 ) -> Result<Result<(), Refusal>, Fail> {
-    let mut delta = vec![in alloc; Change::same(); FIELD_LIMIT]?;
+    let mut delta = vec![in alloc; Change::same(); text.len()]?;
     for (change, field) in delta.iter_mut().zip(text) {
         *change = change_of(*field)?;
     }

@@ -1,5 +1,5 @@
 //! Runs of each kind of buffer, with each kind of value.
-use crate::player::Act::{CopyOver, DropFirst, Forget, Put, PutAll, PutUnfit, Takes, Turn};
+use crate::player::Act::{CopyOver, DropFirst, Forget, Put, PutAll, PutLong, Takes, Turn};
 use crate::player::Waits::{Both, Each, Empty, Still};
 use crate::player::{FULL, Layout, Memory, NOTHING, Script, TAKEN, play};
 use crate::sample::Sample;
@@ -8,7 +8,7 @@ use row::{CELL_LIMIT, Change, FIELD_LIMIT, LogicRecord, Mark, TextRecord};
 use std::alloc::Global;
 use std::process::Abort;
 use std::test::*;
-use waiting::{Marks, PAIR_LIMIT, QUEUE_LIMIT, Queue, Waiting};
+use waiting::{Marks, OverSlice, PAIR_LIMIT, QUEUE_LIMIT, Queue, Waiting};
 
 // Plays a script on buffers of a kind, and looks at the memory that they leave.
 fn play_queue_of<R: Sample>(
@@ -154,7 +154,7 @@ fn puts(rt: HostRuntime) -> Result<(), Fail> {
             ),
             (Put(5, b"............", TAKEN), Still),
             (Put(2, b"", TAKEN), Still),
-            (PutUnfit(3), Still),
+            (PutLong(3), Still),
             (Takes(3, true), Still),
         ],
     )
@@ -322,13 +322,30 @@ fn full_queue(rt: HostRuntime) -> Result<(), Fail> {
             (Takes(1, false), Still),
             (Put(1, b"0", FULL), Still),
             (Put(1, b"", FULL), Still),
-            (PutUnfit(1), Still),
+            (PutLong(1), Still),
             (DropFirst(TAKEN), Both(&pairs[1..PAIR_LIMIT])),
             (Takes(1, true), Still),
             (Put(1, b"#", TAKEN), Both(&pairs[1..])),
             (Put(3, b"0", FULL), Still),
             (Forget(2), Both(&pairs[2..])),
             (Takes(1, true), Still),
+            (
+                Forget(3),
+                Both(&[
+                    (4, b"z"),
+                    (5, b"2"),
+                    (6, b"#"),
+                    (7, b"$"),
+                    (8, b".0"),
+                    (1, b".1"),
+                    (4, b".2"),
+                    (5, b".#"),
+                    (6, b".$"),
+                    (7, b"..0"),
+                    (8, b"..1"),
+                    (1, b"#"),
+                ]),
+            ),
         ],
     )
 }
@@ -390,7 +407,7 @@ fn single(rt: HostRuntime) -> Result<(), Fail> {
             (Takes(3, false), Still),
             (Put(3, b".1", FULL), Still),
             (Put(4, b"", FULL), Still),
-            (PutUnfit(4), Still),
+            (PutLong(4), Still),
             (Forget(4), Still),
             (CopyOver, Still),
             (Forget(3), Empty),

@@ -1,18 +1,18 @@
 //! The single: one delta waits at most, and a second one is refused until the first is dropped.
-ghost use Rattle.std.specs.Prelude.{◌≡◌, true, map, length, replicate};
+ghost use Rattle.std.specs.Prelude.{◌≡◌, true, length, replicate};
 ghost use Rattle.std.specs.List.{list_all};
 ghost use Rattle.std.specs.Option.{option_to_list};
 ghost use Rattle.row.specs.Limits.{field_limit};
-ghost use Rattle.row.specs.Records.{canonical, change_record};
+ghost use Rattle.row.specs.Records.{change_record};
 ghost use Rattle.row.specs.Rows.{same};
 ghost use Rattle.row.specs.Taps.{is_tap};
 ghost use Rattle.waiting.specs.Rows.{rows_wait};
 
-use row::{Change, FIELD_LIMIT, Fault, Refusal, Tap, Value, all_same, blank, canonicalize};
-use waiting::{Pair, Unfit, Waiting};
+use row::{Change, FIELD_LIMIT, Fault, Refusal, Tap, Value, all_same, blank};
+use waiting::{OverSlice, Pair, Unfit, Waiting, copy_changes, widen};
 
 /// The number of the tap whose delta waits, if one does, and the delta: all same where none waits.
-// kept: a number and no `Tap`, as in `Queue`
+// A number and no `Tap`, as in `Queue`.
 #[derive(Drop)]
 pub struct Single<'a, R: Value> {
     changes: &'a mut [Change<R>],
@@ -20,24 +20,6 @@ pub struct Single<'a, R: Value> {
     ghost whole: { length changes.now ≡ field_limit },
     ghost known: { list_all is_tap (option_to_list tap) ≡ true },
     ghost busy: { rows_wait R.kind (length (option_to_list tap)) changes.now ≡ true },
-}
-
-// Copies changes, each by the record of its meaning.
-// kept: as `copy_changes`, since of what is written through a field's slice nothing is known
-fn store<R: Value>(changes: &mut [Change<R>], delta: &[Change<R>])
-    requires { length delta.now ≡ length changes.old }
-    ensures { changes.new ≡ map (canonical R.kind) delta.now }
-{
-    changes.copy_from_slice(delta);
-    canonicalize(changes);
-}
-
-// kept: a field's slice cannot be passed on beside another field's
-fn copy_changes<R: Copy>(from: &[Change<R>], to: &mut [Change<R>])
-    requires { length to.old ≡ length from.now }
-    ensures { to.new ≡ from.now }
-{
-    to.copy_from_slice(from);
 }
 
 impl<R: Value> Single<'_, R> {
@@ -52,49 +34,40 @@ impl<R: Value> Single<'_, R> {
     }
 }
 
-impl<'a, R: Value> Waiting<'a, R> for Single<'a, R> {
-    ghost use Rattle.waiting.specs.Queues.{queue_of, pairs_in};
-    ghost use Rattle.buffers.specs.Singles.{single-lawful, single-held};
+impl<'a, R: Value> Waiting<R> for Single<'a, R> {
+    ghost use Rattle.waiting.specs.Layouts.{Exact};
+    ghost use Rattle.waiting.specs.Queues.{queue_of, pairs_in, rows_of};
+    ghost use Rattle.buffers.specs.Singles.{single-lawful, single-values, single-holds};
 
     ghost policy = { queue_of 1 };
 
-    ghost list = { λ s. pairs_in R.kind (option_to_list s.tap) s.changes.now };
+    ghost meaning = { λ s. pairs_in R.kind (option_to_list s.tap) s.changes.now };
 
-    ghost memory = { λ s. s.changes.now };
+    ghost exact = { λ s. Exact R.kind (rows_of 1) s.changes.now (pairs_in R.kind (option_to_list s.tap) s.changes.now) };
 
     ghost lent = { λ s. s.changes.ghost_name };
 
     ghost lawful = { single-lawful };
 
-    ghost change_record = { λ s. single-held R.kind s.tap s.changes.now s.whole s.known s.busy };
+    ghost keeps_values = { single-values R.kind.allowed };
 
-    fn places() -> usize {
-        FIELD_LIMIT
-    }
-
-    fn new(changes: &'a mut [Change<R>]) -> Result<Single<'a, R>, Unfit<'a, R>> {
-        if changes.len() != FIELD_LIMIT {
-            return Err(Unfit { changes });
-        }
-        blank(changes);
-        Ok(Single { changes, tap: None })
-    }
+    ghost holdable = { λ s. single-holds R.kind s.tap s.changes.now s.whole s.known s.busy };
 
     fn takes(&self, _: Tap) -> bool {
         self.tap.is_none()
     }
 
+    #[tactic(auto, using(crate::proofs::One::put_same))]
     fn put(&mut self, tap: Tap, delta: &[Change<R>]) -> Result<(), Refusal> {
-        if delta.len() != FIELD_LIMIT {
-            return Err(Refusal::MEMORY);
-        }
+        let whole = widen(delta)?;
         if !self.takes(tap) {
             return Err(Fault::Full.at(0));
         }
-        if all_same(delta) {
+        if all_same(&whole) {
             return Ok(());
         }
-        store(self.changes, delta);
+        // never refused: the memory is one row
+        let _ = copy_changes(&whole, self.changes);
         self.tap = Some(tap.number());
         Ok(())
     }
@@ -126,12 +99,31 @@ impl<'a, R: Value> Waiting<'a, R> for Single<'a, R> {
     fn copy_to(&self, other: &mut Single<'a, R>) {
         // nothing waits in it while the changes change
         other.tap = None;
-        copy_changes(self.changes, other.changes);
+        // never refused: memory of a single has one length
+        let _ = copy_changes(self.changes, other.changes);
         other.tap = self.tap;
     }
 
     fn count(&self) -> usize {
         usize::from(self.tap.is_some())
+    }
+}
+
+impl<'a, R: Value> OverSlice<'a, R> for Single<'a, R> {
+    ghost places = { field_limit };
+
+    ghost memory = { λ s. s.changes.now };
+
+    fn places() -> usize {
+        FIELD_LIMIT
+    }
+
+    fn new(changes: &'a mut [Change<R>]) -> Result<Single<'a, R>, Unfit<'a, R>> {
+        if changes.len() != FIELD_LIMIT {
+            return Err(Unfit { changes });
+        }
+        blank(changes);
+        Ok(Single { changes, tap: None })
     }
 
     fn memory(&self) -> &[Change<R>] {

@@ -9,7 +9,7 @@ use viewer::{Heard, Viewer};
 
 type Answer = Result<Heard, Numbered>;
 
-// kept: the same memory as of `follow`'s listener; one in `viewer` would be a second way to hold what is lent to it
+// A viewer, and the memory that it is lent. `follow` has the same, but a program exports nothing.
 #[derive(Drop)]
 struct Listener {
     viewer: Viewer,
@@ -30,6 +30,15 @@ impl Listener {
         self.viewer
             .hear(line, &mut self.cells, &mut self.delta)
             .map_err(numbered)
+    }
+
+    // Checks the lent changes, written as a list of twelve.
+    fn check_delta(&self, rt: &impl Abort, line: usize, list: &[u8]) -> Result<(), Fail> {
+        let mut out = [b'?'; LIST_LIMIT];
+        let end = write_list(&mut out, 0, &self.delta, FIELD_LIMIT);
+        assert_eq!(rt; end, Ok(list.len()), "line {line}");
+        assert!(rt; out.starts_with(list), "line {line}");
+        Ok(())
     }
 
     // Checks the first fields of a tap's row, written as a list.
@@ -182,6 +191,8 @@ fn edges(rt: HostRuntime) -> Result<(), Fail> {
             (b"SUBOK,8,1,1", Ok(Taken)),
             (b"U,8,1,aaaaaaaaaaaaaaaaaaaaaaaaaaaaaaaa", Ok(Taken)),
             (b"U,8,1,aaaaaaaaaaaaaaaaaaaaaaaaaaaaaaaaa", Err((8, 6))),
+            // too long, and then unsound: 3 before 8
+            (b"U,8,1,aaaaaaaaaaaaaaaaaaaaaaaaaaaaaaaaa%zz", Err((3, 39))),
             (
                 b"U,8,1,%2C%2C%2C%2C%2C%2C%2C%2C%2C%2C%2C%2C%2C%2C%2C%2C%2C%2C%2C%2C%2C%2C%2C%2C%2C%2C%2C%2C%2C%2C%2C%2C",
                 Ok(Taken),
@@ -211,7 +222,35 @@ fn edges(rt: HostRuntime) -> Result<(), Fail> {
     listener.check_row(&rt, 6, 1, b"a#$^%2C")
 }
 
-// Lines of the longest length, and of one byte more.
+// A row of three fields and the lent changes, line by line.
+#[test]
+fn rows_and_changes(rt: HostRuntime) -> Result<(), Fail> {
+    let table: [(&[u8], Answer, &[u8], &[u8]); 11] = [
+        (b"U,2,1,a|b|c", Ok(Passed), b"#|#|#", b"^12"),
+        (b"SUBOK,2,1,3", Ok(Taken), b"#|#|#", b"^12"),
+        // a place that stays same in the first update leaves the cell null
+        (b"U,2,1,a|b|", Ok(Taken), b"a|b|#", b"a|b|^10"),
+        // null after a value
+        (b"U,2,1,#||$", Ok(Taken), b"#|b|$", b"#||$|^9"),
+        (b"U,2,1,c|%zz|", Err((3, 8)), b"#|b|$", b"^12"),
+        (b"U,3,1,c|c|c", Ok(Passed), b"#|b|$", b"^12"),
+        (b"PROBE", Ok(Taken), b"#|b|$", b"^12"),
+        // opened again, with another count
+        (b"SUBOK,2,1,2", Ok(Taken), b"#|#|#", b"^12"),
+        (b"U,2,1,|d", Ok(Taken), b"#|d|#", b"|d|^10"),
+        (b"U,2,1,|d|", Err((7, 6)), b"#|d|#", b"^12"),
+        (b"UNSUB,2", Ok(Taken), b"#|#|#", b"^12"),
+    ];
+    let mut listener = Listener::new();
+    for (i, (line, answer, row, delta)) in table.iter().enumerate() {
+        assert_eq!(rt; listener.hear(line), *answer, "line {i}");
+        listener.check_delta(&rt, i, delta)?;
+        listener.check_row(&rt, 1, 3, row)?;
+    }
+    Ok(())
+}
+
+// Lines of the longest length, and of one byte more. A CR within a line is one of its bytes.
 #[test]
 fn long_lines(rt: HostRuntime) -> Result<(), Fail> {
     let mut listener = Listener::new();
@@ -219,6 +258,9 @@ fn long_lines(rt: HostRuntime) -> Result<(), Fail> {
     assert_eq!(rt; listener.hear(&line[..LINE_LIMIT]), Err((5, 0)));
     assert_eq!(rt; listener.hear(&line), Err((16, 0)));
     line[..9].copy_from_slice(b"SERVNAME,");
+    assert_eq!(rt; listener.hear(&line[..LINE_LIMIT]), Ok(Taken));
+    assert_eq!(rt; listener.hear(&line), Err((16, 0)));
+    line[LINE_LIMIT / 2] = b'\r';
     assert_eq!(rt; listener.hear(&line[..LINE_LIMIT]), Ok(Taken));
     assert_eq!(rt; listener.hear(&line), Err((16, 0)));
     Ok(())

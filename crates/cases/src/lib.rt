@@ -12,6 +12,8 @@ mod kinds;
 #[cfg(test)]
 mod notified;
 #[cfg(test)]
+mod records;
+#[cfg(test)]
 mod refused;
 #[cfg(test)]
 mod requested;

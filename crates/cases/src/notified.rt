@@ -13,7 +13,8 @@ fn is_text(part: Part<'_>, meant: &[u8]) -> bool {
 }
 
 // Whether a line was read as this message.
-// kept: two types, since a message has texts as they are meant and what was read has them as they stand in the line
+// A message has texts as they are meant, and what was read has them as parts of the line, so that
+// no equality can be derived.
 fn is_same(message: Message<'_>, says: Notification<'_>) -> bool {
     match (message, says) {
         (Message::Probe, Notification::Probe) => true,

@@ -1,8 +1,8 @@
 //! A refusal, as it stands in a table.
 use row::Refusal;
 
-// The number of its fault, and its place.
-// kept: tables have the numbers of the protocol, which names of faults would not test
+// The number of its fault, and its place. Tables have the numbers of docs/protocol.md, which names
+// of faults would not test.
 pub(crate) type Numbered = (u8, usize);
 
 pub(crate) fn number(refusal: Refusal) -> u8 {

@@ -5,8 +5,8 @@ use requests::{REQUEST_LIMIT, Request, read_request};
 use std::process::Abort;
 use std::test::*;
 
-// What a request asks for. An operation on a subscription has its ID.
-// kept: a derived equality of `Request` would compare the bytes behind its words too; a table has words as slices
+// What a request asks for. An operation on a subscription has its ID. A `Request` holds its words in
+// arrays, with bytes behind them that say nothing, so a table cannot spell one.
 #[derive(Clone, Copy, PartialEq, Debug)]
 enum Asked {
     Create,
@@ -94,8 +94,14 @@ fn shapes(rt: HostRuntime) -> Result<(), Fail> {
             (b"control\r\nLS_reqId=%4", Err((3, 18))),
             (b"control\r\nLS_reqId=7%zz", Err((3, 19))),
             (b"control\r\nLS_reqId=+%", Err((3, 19))),
+            (b"control\r\nLS_reqId=a+b", Err((8, 18))),
             (b"control\r\nLS_reqId=a b", Err((8, 18))),
             (b"control\r\nLS_reqId=a=b", Err((8, 18))),
+            (b"control\r\nLS_reqId=a+b", Err((8, 18))),
+            (
+                b"create_session\r\nLS_cid=+aaaaaaaaaaaaaaaaaaaaaaaaaaaaaaaaaaaaaaaaaaaaaaaaaaaaaaaaaaaaaaaaa",
+                Err((8, 23)),
+            ),
             (
                 b"create_session\r\nLS_cid=aaaaaaaaaaaaaaaaaaaaaaaaaaaaaaaaaaaaaaaaaaaaaaaaaaaaaaaaaaaaaaaaa",
                 Err((16, 0)),
@@ -208,5 +214,10 @@ fn lengths(rt: HostRuntime) -> Result<(), Fail> {
     assert_eq!(rt; read(&text[..REQUEST_LIMIT]), Err((16, 0)));
     assert_eq!(rt; read(&text[..23 + 64]), Ok(Create));
     assert_eq!(rt; read(&text[..23 + 65]), Err((16, 0)));
+    // with a byte that does not stand in a value too: 8, and 3 for a `%` behind it
+    text[23 + 65] = b'+';
+    assert_eq!(rt; read(&text[..23 + 66]), Err((8, 23)));
+    text[23 + 66] = b'%';
+    assert_eq!(rt; read(&text[..23 + 67]), Err((3, 89)));
     Ok(())
 }

@@ -1,6 +1,7 @@
 pub mod Written
 pub mod Drafts
+pub mod Writers
 pub mod Held
 pub mod Composed
 pub mod ReadBack
-pub mod Pairs
+pub mod Assignments

@@ -10,14 +10,14 @@ use Rattle.requests.specs.declared.name.Form.{Form}
 use Rattle.requests.specs.declared.name.Name.{Name}
 use Rattle.requests.specs.declared.name.Parameter.{Parameter}
 use Rattle.requests.specs.declared.name.Parameter.TheVariants.{Operation}
-use Rattle.compose.specs.Written.{Pair, given_by, written}
+use Rattle.compose.specs.Written.{Assignment, given_by, written}
 
 -- the value of a parameter, if there is a pair of it
-abbrev pub value_in : List Pair → Parameter → Option (List ℕ)
+abbrev pub value_in : List Assignment → Parameter → Option (List ℕ)
 value_in xs = found (map given_by xs)
 
 -- values as the writer takes them, no parameter twice, and just what a form has in a request for this session
-pub record Keeps (session : ℕ) (name : Name) (form : Form) (xs : List Pair) : Type 0 where
+pub record Keeps (session : ℕ) (name : Name) (form : Form) (xs : List Assignment) : Type 0 where
   pub bytes : AllByRecursion (λ x. AllByRecursion (λ b. b < 256) x.value) xs
   pub short : AllByRecursion (λ x. length x.value ≤ value_limit) xs
   pub apart : Apart (map given_by xs)
@@ -28,4 +28,6 @@ pub record Keeps (session : ℕ) (name : Name) (form : Form) (xs : List Pair) : 
 
 -- the reader takes a written request that keeps the rules for what its pairs ask for
 abbrev pub ReadsBack : Type 0
-ReadsBack = (session : ℕ) (name : Name) (form : Form) (xs : List Pair) → Keeps session name form xs → read_request session (written name xs) ≡ Ok (request_of (value_in xs) form)
+ReadsBack = (session : ℕ) (name : Name) (form : Form) (xs : List Assignment)
+    → Keeps session name form xs
+    → read_request session (written name xs) ≡ Ok (request_of (value_in xs) form)

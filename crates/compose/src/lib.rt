@@ -1,11 +1,11 @@
 //! Requests, written by the viewer into lent bytes.
 #![tactic(auto)]
 
-mod pair;
+mod assignment;
 mod part;
 mod request;
 mod whole;
 
-pub use pair::Pair;
+pub use assignment::Assignment;
 pub use request::{Finished, RequestWriter};
 pub use whole::compose;

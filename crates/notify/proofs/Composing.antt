@@ -9,7 +9,7 @@ use Rattle.tlcp.specs.Lines.{and_then}
 use Rattle.tlcp.specs.Lines.{word}
 use Rattle.tlcp.specs.declared.tag.Tag.{Tag}
 use Rattle.notify.specs.Given.{Given, Saying, spell, argued, line_text, within}
-use Rattle.notify.specs.Composed.{extended, composed}
+use Rattle.notify.specs.Composed.{lengthened, composed}
 use Rattle.notify.specs.Back.{Accepted}
 use Rattle.notify.specs.Written.{is_short, line_answer, line_placed}
 
@@ -20,14 +20,14 @@ err-is : {X : Type 0} (b : Bool) (x : X) (d e : Refusal) → Err d ≡ cond b (O
 err-is b x d e is = search rules
 
 -- several arguments, one after another, are refused exactly where the line is too long
-pub composed-is : (s : List ℕ) (gs : List Given) → length s ≤ line_limit → composed s gs ≡ extended s (argued gs)
+pub composed-is : (s : List ℕ) (gs : List Given) → length s ≤ line_limit → composed s gs ≡ lengthened s (argued gs)
 composed-is s [] short = sym (rw append-nil (cond-true _ _ _ (le-leb (length s + 0) line_limit (omega arith))))
 composed-is s (g ∷ gs) short =
     let x = 44 ∷ spell g in
     let rest = argued gs in
     let whole : (s ++ x) ++ rest ≡ s ++ (x ++ rest) = append_assoc s x rest in
     let long : length s + length (x ++ rest) ≡ length (s ++ x) + length rest = simp length-append (omega arith) in
-    cond_both (leb (length s + length x) line_limit) _ _ (λ r. and_then r (λ line. composed line gs) ≡ extended s (x ++ rest))
+    cond_both (leb (length s + length x) line_limit) _ _ (λ r. and_then r (λ line. composed line gs) ≡ lengthened s (x ++ rest))
     (λ fits.
     let more : length (s ++ x) ≤ line_limit = omega (arith, leb-true _ _ fits, length-append s x) in
     composed-is (s ++ x) gs more ∙ (λ i. cond (leb (sym long i) line_limit) (Ok (whole i)) (Err no_room)))

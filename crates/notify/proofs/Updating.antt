@@ -20,7 +20,7 @@ use Rattle.tlcp.specs.Lines as lines
 use Rattle.tlcp.specs.Lines.{word}
 use Rattle.tlcp.specs.declared.tag.Tag.TheVariants.{U}
 use Rattle.notify.specs.Given.{number, argued, is_within, line_text}
-use Rattle.notify.specs.Back.{Accepted, BytesIn, Sound, Update, UpdateBack, UpdateShort, UpdateUnbroken}
+use Rattle.notify.specs.Back.{Accepted, BytesIn, FromMemory, Update, UpdateBack, UpdateShort, UpdateUnbroken}
 use Rattle.notify.specs.Composed.{composed}
 use Rattle.notify.specs.Written.{update_of, update_answer, update_placed}
 use Rattle.notify.proofs.Backing.{read_back, unbroken}
@@ -52,7 +52,7 @@ module _ {R : Type 0} (k : Kind R) (law : Lawful k) where
     id-few : Update k id delta fields → id ≤ id_limit
     id-few h = grind (arith, nat_tests, h.id-within)
 
-    sound : Update k id delta fields → AllByRecursion Sound (update_of k id delta fields).given
+    sound : Update k id delta fields → AllByRecursion FromMemory (update_of k id delta fields).given
     sound h =
         let size : length (changes_of k delta fields) ≡ fields = length-map (take fields delta) (change_of k) ∙ length-take-le fields delta (omega (arith, few h, h.whole)) in
         (tt, (tt, ((omega (arith, size, few h), bytes-in (take fields delta)), tt)))

@@ -1,4 +1,5 @@
--- What is known of every written line: how it is read back, that it is short, and that it holds no line's end.
+-- What is known of every written line: how it is read back, that it is short, and that it holds no
+-- line's end.
 use Rattle.std.specs.Prelude.{◌≡◌, ℕ, ◌+◌, ◌<◌, ◌≤◌, true, false, List, [], ◌∷◌, length, Ok}
 use Rattle.std.specs.List.{AllByRecursion}
 use Rattle.row.specs.Kinds.{Kind}
@@ -11,7 +12,8 @@ use Rattle.tlcp.specs.Dividing.{has}
 use Rattle.tlcp.specs.Lists.{read_list, written_list}
 use Rattle.tlcp.specs.Written.{changes_of, covers}
 use Rattle.tlcp.specs.Limits.{line_limit}
-use Rattle.tlcp.specs.Lines.{Argument, numbered, coded, worded, listed, Message, piece, read_line, word}
+use Rattle.tlcp.specs.Lines.{Argument, numbered, coded, worded, listed, Message, piece, read_line}
+use Rattle.tlcp.specs.Lines.{word}
 use Rattle.notify.specs.Given.{Given, number, code, text, list, Saying, spell, within, line_text}
 use Rattle.notify.specs.Written.{update_of}
 
@@ -29,7 +31,11 @@ arguments at (g ∷ gs) = argument g (at + 1) ∷ arguments (at + (length (spell
 
 -- the message that the reader takes the line for
 abbrev pub laid : Saying → Message
-laid s = record { tag = s.tag; name = piece (word s.tag) 0; args = arguments (length (word s.tag)) s.given }
+laid s = record {
+  tag = s.tag;
+  name = piece (word s.tag) 0;
+  args = arguments (length (word s.tag)) s.given;
+}
 
 abbrev pub Bytes : List ℕ → Type 0
 Bytes t = AllByRecursion (λ b. b < 256) t
@@ -40,18 +46,18 @@ BytesIn (becomes null) = Unit {0}
 BytesIn (becomes (value t)) = Bytes t
 
 -- what memory gives: texts are bytes, and a delta is of a row
-abbrev pub Sound : Given → Type 0
-Sound (number n) = Unit {0}
-Sound (code z) = Unit {0}
-Sound (text t) = Bytes t
-Sound (list d) = (length d ≤ field_limit) × AllByRecursion BytesIn d
+abbrev pub FromMemory : Given → Type 0
+FromMemory (number n) = Unit {0}
+FromMemory (code z) = Unit {0}
+FromMemory (text t) = Bytes t
+FromMemory (list d) = (length d ≤ field_limit) × AllByRecursion BytesIn d
 
 -- a text stands for the bytes that were given
-abbrev pub Meant : Given → Type 0
-Meant (number n) = Unit {0}
-Meant (code z) = Unit {0}
-Meant (text t) = Decodes (spell (text t)) t
-Meant (list d) = Unit {0}
+abbrev pub StandsFor : Given → Type 0
+StandsFor (number n) = Unit {0}
+StandsFor (code z) = Unit {0}
+StandsFor (text t) = Decodes (spell (text t)) t
+StandsFor (list d) = Unit {0}
 
 -- its numbers are within their limits, and its line is no longer than a line may be
 pub record Accepted (s : Saying) : Type 0 where
@@ -61,10 +67,10 @@ pub record Accepted (s : Saying) : Type 0 where
 -- the line is read as what was given
 pub record Reads (s : Saying) : Type 0 where
   pub line : read_line (line_text s) ≡ Ok (laid s)
-  pub texts : AllByRecursion Meant s.given
+  pub texts : AllByRecursion StandsFor s.given
 
-abbrev pub ReadBack : Saying → Type 0
-ReadBack s = Accepted s → Reads s
+abbrev pub LineBack : Saying → Type 0
+LineBack s = Accepted s → Reads s
 
 -- neither CR nor LF stands in it
 abbrev pub Unbroken : List ℕ → Type 0
@@ -84,10 +90,14 @@ module _ {R : Type 0} (k : Kind R) where
   abbrev pub UpdateBack : ℕ → List (Change R) → ℕ → Type 0
   UpdateBack id delta fields =
       let d = changes_of k delta fields in
-      Update id delta fields → Reads (update_of k id delta fields) × (read_list k.allowed fields (written_list d) ≡ Ok d)
+      Update id delta fields
+      → Reads (update_of k id delta fields)
+      × (read_list k.allowed fields (written_list d) ≡ Ok d)
 
   abbrev pub UpdateShort : ℕ → List (Change R) → ℕ → Type 0
-  UpdateShort id delta fields = Update id delta fields → length (line_text (update_of k id delta fields)) ≤ line_limit
+  UpdateShort id delta fields =
+      Update id delta fields → length (line_text (update_of k id delta fields)) ≤ line_limit
 
   abbrev pub UpdateUnbroken : ℕ → List (Change R) → ℕ → Type 0
-  UpdateUnbroken id delta fields = Update id delta fields → Unbroken (line_text (update_of k id delta fields))
+  UpdateUnbroken id delta fields =
+      Update id delta fields → Unbroken (line_text (update_of k id delta fields))

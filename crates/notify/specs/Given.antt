@@ -1,5 +1,6 @@
 -- What is given for the arguments of a line, and the line that says it.
-use Rattle.std.specs.Prelude.{ℕ, Bool, true, false, ◌&&◌, List, [], ◌∷◌, ◌++◌, ℤ, decimal, nat_le, unsigned_abs}
+use Rattle.std.specs.Prelude.{ℕ, Bool, true, false, ◌&&◌, List, [], ◌∷◌, ◌++◌, ℤ, decimal, nat_le}
+use Rattle.std.specs.Prelude.{unsigned_abs}
 use Rattle.std.specs.List.{flat_map}
 use Rattle.std.specs.Fmt.{signed_decimal}
 use Rattle.row.specs.Rows.{Change}
@@ -30,8 +31,8 @@ abbrev pub saying : Tag → List Given → Saying
 saying t gs = record { tag = t; given = gs }
 
 -- the item, or how many items there are
-abbrev pub single : Given
-single = number 1
+abbrev pub one_item : Given
+one_item = number 1
 
 abbrev pub saying_of : Message → Saying
 saying_of m.Probe = saying t.Probe []
@@ -45,12 +46,14 @@ saying_of (m.Unsub id) = saying t.Unsub (number id ∷ [])
 saying_of (m.Conerr c s) = saying t.Conerr (code c ∷ text s.now ∷ [])
 saying_of (m.End c s) = saying t.End (code c ∷ text s.now ∷ [])
 saying_of (m.Error c s) = saying t.Error (code c ∷ text s.now ∷ [])
-saying_of (m.Eos id) = saying t.Eos (number id ∷ single ∷ [])
-saying_of (m.Subok id fields) = saying t.Subok (number id ∷ single ∷ number fields ∷ [])
-saying_of (m.Ov id lost) = saying t.Ov (number id ∷ single ∷ number lost ∷ [])
-saying_of (m.Conf id frequency filter) = saying t.Conf (number id ∷ text frequency.now ∷ text filter.now ∷ [])
+saying_of (m.Eos id) = saying t.Eos (number id ∷ one_item ∷ [])
+saying_of (m.Subok id fields) = saying t.Subok (number id ∷ one_item ∷ number fields ∷ [])
+saying_of (m.Ov id lost) = saying t.Ov (number id ∷ one_item ∷ number lost ∷ [])
+saying_of (m.Conf id frequency filter) =
+    saying t.Conf (number id ∷ text frequency.now ∷ text filter.now ∷ [])
 saying_of (m.Reqerr request c s) = saying t.Reqerr (text request.now ∷ code c ∷ text s.now ∷ [])
-saying_of (m.Conok session limit keepalive link) = saying t.Conok (text session.now ∷ number limit ∷ number keepalive ∷ text link.now ∷ [])
+saying_of (m.Conok session limit keepalive link) =
+    saying t.Conok (text session.now ∷ number limit ∷ number keepalive ∷ text link.now ∷ [])
 
 -- what is given is of a sort, and a number or code is within its limits
 abbrev pub is_within : Sort → Given → Bool

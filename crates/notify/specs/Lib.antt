@@ -2,3 +2,4 @@ pub mod Given
 pub mod Composed
 pub mod Written
 pub mod Back
+pub mod Examples

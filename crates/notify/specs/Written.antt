@@ -12,7 +12,7 @@ use Rattle.tlcp.specs.Lists.{uncovered}
 use Rattle.tlcp.specs.Written.{changes_of, covers}
 use Rattle.tlcp.specs.Limits.{line_limit}
 use Rattle.tlcp.specs.declared.tag.Tag.TheVariants.{U}
-use Rattle.notify.specs.Given.{Saying, saying, number, single, list, within, line_text}
+use Rattle.notify.specs.Given.{Saying, saying, number, one_item, list, within, line_text}
 
 -- a number is beyond its limits
 abbrev pub beyond : Refusal
@@ -34,16 +34,19 @@ line_placed s at xs =
 module _ {R : Type 0} (k : Kind R) where
   -- an update of the first fields of a row
   abbrev pub update_of : ℕ → List (Change R) → ℕ → Saying
-  update_of id delta fields = saying U (number id ∷ single ∷ list (changes_of k delta fields) ∷ [])
+  update_of id delta fields = saying U (number id ∷ one_item ∷ list (changes_of k delta fields) ∷ [])
 
   abbrev pub update_answer : ℕ → List (Change R) → ℕ → ℕ → List ℕ → Result ℕ Refusal
   update_answer id delta fields at xs =
       let update = update_of id delta fields in
       let written = end_or at (line_text update) xs in
-      cond (length delta == field_limit) (cond (within update) (cond (covers fields) written (Err uncovered)) (Err beyond)) (Err memory_refusal)
+      cond (length delta == field_limit)
+      (cond (within update) (cond (covers fields) written (Err uncovered)) (Err beyond))
+      (Err memory_refusal)
 
   abbrev pub update_placed : ℕ → List (Change R) → ℕ → ℕ → List ℕ → List ℕ
   update_placed id delta fields at xs =
       let update = update_of id delta fields in
       let written = placed_or at (line_text update) xs in
-      cond (length delta == field_limit) (cond (within update) (cond (covers fields) written xs) xs) xs
+      cond (length delta == field_limit)
+      (cond (within update) (cond (covers fields) written xs) xs) xs

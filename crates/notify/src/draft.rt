@@ -6,7 +6,7 @@ ghost use Rattle.tlcp.specs.Written.{changes_of, covers, end_or, placed_or};
 ghost use Rattle.std.specs.Result.{result_map_both};
 ghost use Rattle.notify.specs.Back.{Bytes};
 ghost use Rattle.notify.specs.Given.{code, list, number, spell, text};
-ghost use Rattle.notify.specs.Composed.{extended, held};
+ghost use Rattle.notify.specs.Composed.{lengthened, drafted};
 
 use row::{Change, Refusal, Value};
 use tlcp::{Bounded, Class, LINE_LIMIT, Tag, Worded, put};
@@ -20,7 +20,7 @@ pub(crate) struct Draft {
 impl Draft {
     // A line that begins with a tag's word.
     pub(crate) fn of(tag: Tag) -> Draft
-        ensures { held result ≡ word tag }
+        ensures { drafted result ≡ word tag }
     {
         let mut line = Bounded::new();
         // every word has room
@@ -30,7 +30,8 @@ impl Draft {
 
     // Each argument stands behind a comma.
     pub(crate) fn number(mut self, n: u32) -> Result<Draft, Refusal>
-        ensures { result_map_both held (λ e. e) result ≡ extended (held self) (44 ∷ spell (number n)) }
+        ensures { result_map_both drafted (λ e. e) result
+            ≡ lengthened (drafted self) (44 ∷ spell (number n)) }
     {
         self.line.put(b",")?;
         self.line.put_number(u64::from(n))?;
@@ -38,7 +39,8 @@ impl Draft {
     }
 
     pub(crate) fn code(mut self, n: i32) -> Result<Draft, Refusal>
-        ensures { result_map_both held (λ e. e) result ≡ extended (held self) (44 ∷ spell (code n)) }
+        ensures { result_map_both drafted (λ e. e) result
+            ≡ lengthened (drafted self) (44 ∷ spell (code n)) }
     {
         self.line.put(if n < 0 { b",-" } else { b"," })?;
         self.line.put_number(u64::from(n.unsigned_abs()))?;
@@ -47,7 +49,8 @@ impl Draft {
 
     // A text is given by the bytes that it means.
     pub(crate) fn text(mut self, meant: &[u8]) -> Result<Draft, Refusal>
-        ensures line { result_map_both held (λ e. e) result ≡ extended (held self) (44 ∷ spell (text meant.now)) }
+        ensures line { result_map_both drafted (λ e. e) result
+            ≡ lengthened (drafted self) (44 ∷ spell (text meant.now)) }
         ensures bytes { Bytes meant.now }
     {
         self.line.put(b",")?;
@@ -63,7 +66,8 @@ impl Draft {
     ) -> Result<Draft, Refusal>
         requires whole { length delta.now ≡ field_limit }
         requires covered { covers fields ≡ true }
-        ensures { result_map_both held (λ e. e) result ≡ extended (held self) (44 ∷ spell (list (changes_of R.kind delta.now fields))) }
+        ensures { result_map_both drafted (λ e. e) result
+            ≡ lengthened (drafted self) (44 ∷ spell (list (changes_of R.kind delta.now fields))) }
     {
         self.line.put(b",")?;
         self.line.put_list(delta, fields)?;
@@ -72,8 +76,8 @@ impl Draft {
 
     // Writes the line from the place `at` on, if it fits, and answers the place behind it.
     pub(crate) fn put(&self, out: &mut [u8], at: usize) -> Result<usize, Refusal>
-        ensures answer { result ≡ end_or at (held self.now) out.old }
-        ensures bytes { out.new ≡ placed_or at (held self.now) out.old }
+        ensures answer { result ≡ end_or at (drafted self.now) out.old }
+        ensures bytes { out.new ≡ placed_or at (drafted self.now) out.old }
     {
         put(out, at, self.line.text())
     }

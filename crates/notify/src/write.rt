@@ -6,10 +6,12 @@ ghost use Rattle.tlcp.specs.Written.{covers};
 ghost use Rattle.tlcp.specs.Lines.{word};
 ghost use Rattle.std.specs.Result.{result_map_both};
 ghost use Rattle.tlcp.specs.declared.tag.Tag.TheVariants.{U};
-ghost use Rattle.notify.specs.Back.{LineUnbroken, ReadBack, Sound, UpdateBack, UpdateShort, UpdateUnbroken};
+ghost use Rattle.notify.specs.Back.{LineUnbroken, LineBack, FromMemory, UpdateBack, UpdateShort};
+ghost use Rattle.notify.specs.Back.{UpdateUnbroken};
 ghost use Rattle.notify.specs.Given.{saying_of};
-ghost use Rattle.notify.specs.Composed.{composed, held};
-ghost use Rattle.notify.specs.Written.{line_answer, line_placed, update_answer, update_of, update_placed};
+ghost use Rattle.notify.specs.Composed.{composed, drafted};
+ghost use Rattle.notify.specs.Written.{line_answer, line_placed, update_answer, update_of};
+ghost use Rattle.notify.specs.Written.{update_placed};
 
 use crate::draft::Draft;
 use crate::message::Message;
@@ -18,8 +20,9 @@ use tlcp::{Limits, Tag, UNCOVERED, covers};
 
 // The line of a message, composed.
 fn compose(message: Message<'_>) -> Result<Draft, Refusal>
-    ensures line { result_map_both held (λ e. e) result ≡ composed (word (saying_of message.entry).tag) (saying_of message.entry).given }
-    ensures bytes { OnOk result (AllByRecursion Sound (saying_of message.entry).given) }
+    ensures line { result_map_both drafted (λ e. e) result
+        ≡ composed (word (saying_of message.entry).tag) (saying_of message.entry).given }
+    ensures bytes { OnOk result (AllByRecursion FromMemory (saying_of message.entry).given) }
 {
     let line = Draft::of(message.into());
     match message {
@@ -59,11 +62,13 @@ fn compose(message: Message<'_>) -> Result<Draft, Refusal>
     }
 }
 
-/// Writes the line of a message, without its end, from the place `at` on, if it fits, and answers the place behind it.
+/// Writes the line of a message, without its end, from the place `at` on, and answers the place
+/// behind it. Refuses with 4 a number or code beyond its limits, and with 16 a line of more than
+/// 1,172 bytes or one that does not fit; the memory is then as it was.
 pub fn write_line(out: &mut [u8], at: usize, message: Message<'_>) -> Result<usize, Refusal>
     ensures answer { result ≡ line_answer (saying_of message.entry) at out.old }
     ensures bytes { out.new ≡ line_placed (saying_of message.entry) at out.old }
-    ensures read_back { ReadBack (saying_of message.entry) }
+    ensures read_back { LineBack (saying_of message.entry) }
     ensures unbroken { LineUnbroken (saying_of message.entry) }
 {
     if message.is_within() {
@@ -77,13 +82,16 @@ pub fn write_line(out: &mut [u8], at: usize, message: Message<'_>) -> Result<usi
 fn compose_update<R: Value>(id: u32, delta: &[Change<R>], fields: usize) -> Result<Draft, Refusal>
     requires whole { length delta.now ≡ field_limit }
     requires covered { covers fields ≡ true }
-    ensures { result_map_both held (λ e. e) result ≡ composed (word U) (update_of R.kind id delta.now fields).given }
+    ensures { result_map_both drafted (λ e. e) result
+        ≡ composed (word U) (update_of R.kind id delta.now fields).given }
 {
     Draft::of(Tag::U).number(id)?.number(1)?.list(delta, fields)
 }
 
-/// Writes the line that updates the first fields of a row, without its end, from the place `at` on, if it fits, and answers
-/// the place behind it.
+/// Writes the U line of the first `fields` fields of a delta, without its end, from the place `at`
+/// on, and answers the place behind it. Refuses with 1 a delta that is not twelve changes, with 4
+/// an ID that is not 1 to 9,999, with 7 a row of no or more than twelve fields, and with 16 a line
+/// that does not fit; the memory is then as it was.
 pub fn write_update<R: Value>(
     out: &mut [u8],
     at: usize,

@@ -6,8 +6,7 @@ use Rattle.std.specs.Result.{result_map_both}
 use Rattle.row.specs.declared.fault.Refusal.{Refusal}
 use Rattle.requests.specs.Limits.{request_limit}
 use Rattle.requests.specs.Requests.{Request, read_request}
-use Rattle.compose.specs.Composed.{bytes_or, length_or}
-use Rattle.compose.specs.Drafts.{Draft}
+use Rattle.compose.specs.Drafts.{Draft, bytes_or, length_or}
 use Rattle.request.specs.Anew.{Anew, anew}
 use Rattle.request.specs.Checking.{anew_text, checked, read_spelled}
 use Rattle.request.specs.Limits.{spelled_limit}

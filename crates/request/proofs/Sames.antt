@@ -1,22 +1,20 @@
 -- A request that was read is written anew, and read again as what is shown of it.
-use Rattle.std.proofs.Common.{◌≡◌, ℕ, ◌+◌, ◌-◌, ◌<◌, ◌≤◌, true, eqb, List, [], ◌∷◌, map, length, take, replicate, is_some, Some, None, Ok, Err, codes, decimal, Option, unwrap_or, sym, refl, ap, ◌∙◌, subst, arith, lit<, lit≤}
+use Rattle.std.proofs.Common.{◌≡◌, ℕ, ◌-◌, ◌<◌, ◌≤◌, true, eqb, List, [], ◌∷◌, map, length, replicate, is_some, Some, None, Ok, codes, decimal, Option, unwrap_or, sym, refl, ap, ◌∙◌, subst, arith, lit<, lit≤}
 use Rattle.std.specs.List.{AllByRecursion}
 use Rattle.std.proofs.ByRecursion.{All-weaker}
 use Rattle.std.proofs.lemmas.List.{length-replicate, take_at}
-use Rattle.std.proofs.lemmas.Bool.{and_from, cond_both, cond-true, le-leb}
+use Rattle.std.proofs.lemmas.Bool.{cond_both}
 use Rattle.std.proofs.lemmas.Bool.Decides.{nat_tests}
-use Rattle.std.specs.Result.{result_map_both}
 use Rattle.row.specs.Every.{all-bytes}
 use Rattle.row.specs.Texts.{every, is_byte, padded}
 use Rattle.tlcp.specs.Bytes.{is_hex, is_plain}
 use Rattle.tlcp.specs.Escapes.{Decodes, nothing, plain, escape, hex_value}
 use Rattle.tlcp.specs.Limits.{id_limit}
-use Rattle.tlcp.specs.Numbers.{number_of}
-use Rattle.tlcp.specs.Written.{fits, no_room}
+use Rattle.tlcp.specs.Numbers.{read_number}
 use Rattle.tlcp.proofs.Numerals.{reads-decimal}
-use Rattle.requests.specs.Asked.{Given, Sound, Apart, Formed, creates, binds, adds, deletes, rebinds, Right, found}
+use Rattle.requests.specs.Asked.{Given, Readable, Apart, Formed, creates, binds, adds, deletes, rebinds, Right, found}
 use Rattle.requests.specs.Limits.{request_limit, value_limit}
-use Rattle.requests.specs.Names.{index_of, is_in, needs, parameters_of, takes}
+use Rattle.requests.specs.Names.{index_of, is_in, needs, takes}
 use Rattle.requests.specs.Requests.{Request, create, bind, add, delete, rebind, request_of}
 use Rattle.requests.specs.Values.{session_name}
 use Rattle.requests.specs.declared.name.Form.{Form}
@@ -24,12 +22,11 @@ use Rattle.requests.specs.declared.name.Form.TheVariants.{Create, Bind, Add, Del
 use Rattle.requests.specs.declared.name.Parameter.{Parameter}
 use Rattle.requests.specs.declared.name.Parameter.TheVariants.{Cid, User, Session, RequestId, Operation, SubscriptionId, Group}
 use Rattle.requests.proofs.Asking.{reads-asked}
-use Rattle.requests.proofs.Forming.{takes-in}
-use Rattle.compose.specs.Composed.{are_short, compose_answer, composed_or, composes, composing, zeroed_or}
+use Rattle.compose.specs.Composed.{composing, zeroed_or}
 use Rattle.compose.specs.ReadBack.{Keeps, value_in}
-use Rattle.compose.specs.Written.{Pair, given_by, written}
-use Rattle.compose.proofs.ReadingBack.{reads-back, written-short}
-use Rattle.compose.proofs.Rooms.{composes-all}
+use Rattle.compose.specs.Written.{Assignment, given_by, written}
+use Rattle.compose.proofs.ReadingBack.{keeps-fit, reads-back, within-limit}
+use Rattle.compose.proofs.Rooms.{keeps-composed}
 use Rattle.request.specs.Anew.{name_for, pairs_for}
 use Rattle.request.specs.Checking.{anew_text}
 use Rattle.request.specs.Same.{shown, ShowsSame}
@@ -52,7 +49,7 @@ decoded-small h (plain {b = b} other d) = (plain-small b h.0, decoded-small h.1 
 decoded-small h (escape {h = x} {l = y} high low d) = (omega (arith, hex-small x high, hex-small y low), decoded-small h.1.1.1 d)
 
 -- the value that was read for a parameter
-fine-found : (gs : List Given) (p : Parameter) → AllByRecursion Sound gs → Fine (unwrap_or (found gs p) [])
+fine-found : (gs : List Given) (p : Parameter) → AllByRecursion Readable gs → Fine (unwrap_or (found gs p) [])
 fine-found [] p h = (tt, lit≤ tt)
 fine-found (g ∷ gs) p h =
     let sound = h.0 in
@@ -68,7 +65,7 @@ hidden : Fine (codes "redacted")
 hidden = fine-word (codes "redacted") refl (lit≤ tt)
 
 -- an ID is read as the number that it is
-number-again : (n : ℕ) (t : List ℕ) → t ≡ decimal n → 1 ≤ n → n ≤ id_limit → unwrap_or (number_of 1 id_limit t) 0 ≡ n
+number-again : (n : ℕ) (t : List ℕ) → t ≡ decimal n → 1 ≤ n → n ≤ id_limit → unwrap_or (read_number 1 id_limit t) 0 ≡ n
 number-again n t is low high = ap (λ o. unwrap_or o 0) ((reads-decimal 1 id_limit n t (lit< tt)).1 is low high)
 
 -- what is written for a request keeps the rules of a form, and asks for what is shown of the request
@@ -79,7 +76,7 @@ record Same (session : ℕ) (q : Request) : Type 0 where
 
 module _ (session : ℕ) where
   module _ (q : Request) (form : Form) where
-    abbrev xs : List Pair
+    abbrev xs : List Assignment
     xs = pairs_for session q
 
     abbrev look : Parameter → Option (List ℕ)
@@ -136,7 +133,7 @@ module _ (session : ℕ) where
           (ap (λ n. add r n g) (number-again id (decimal id) refl low high))
 
   -- a request that was read by these pairs
-  same_read : (gs : List Given) → AllByRecursion Sound gs → (form : Form) → AllByRecursion (λ p. Right session p (unwrap_or (found gs p) [])) (needs form) → Same session (request_of (found gs) form)
+  same_read : (gs : List Given) → AllByRecursion Readable gs → (form : Form) → AllByRecursion (λ p. Right session p (unwrap_or (found gs p) [])) (needs form) → Same session (request_of (found gs) form)
   same_read gs sound Create right = same-create _ _ _ (fine-found gs Cid sound) (fine-found gs User sound)
   same_read gs sound Bind right = same-bind (subst Fine right.0 (fine-found gs Session sound))
   same_read gs sound Add right =
@@ -152,10 +149,6 @@ module _ (session : ℕ) where
       (same-delete r right.0 (fine-found gs RequestId sound) n low high (subst Fine is (fine-found gs SubscriptionId sound)))
   same_read gs sound ForceRebind right = same-rebind _ right.0 (fine-found gs RequestId sound)
 
-are-short : (xs : List Pair) → AllByRecursion (λ x. length x.value ≤ value_limit) xs → are_short xs ≡ true
-are-short [] h = refl
-are-short (x ∷ xs) h = and_from _ _ (le-leb (length x.value) value_limit h.0) (are-short xs h.1)
-
 -- a request that keeps the rules finds its room
 same-written : (session : ℕ) (q : Request) → Same session q → anew_text session q ≡ Ok (written (name_for q) (pairs_for session q))
 same-written session q same =
@@ -164,13 +157,9 @@ same-written session q same =
     let xs = pairs_for session q in
     let out = replicate request_limit 0 in
     let text = written name xs in
-    let known = All-weaker (λ x. is_in x.parameter (takes same.form) ≡ true) (λ x. is_in x.parameter (parameters_of name) ≡ true) (λ x. takes-in k.formed x.parameter) xs k.only in
-    let short : length text ≤ request_limit = written-short name same.form xs k.short k.apart k.only in
-    let room : fits 0 text out ≡ true = le-leb (0 + length text) (length out) (omega (arith, short, length-replicate {A = ℕ} request_limit 0)) in
-    let can : composes name xs out ≡ true = and_from _ _ (are-short xs k.short) room in
-    let (answer, left) = composes-all name xs out known k.apart in
-    sym (text_of (composing name xs out) (zeroed_or name out) (compose_answer name xs out) (composed_or name xs out) (sym answer) (sym left))
-    ∙ (λ i. result_map_both (λ n. take n (cond-true (composes name xs out) (padded (length out) text) (zeroed_or name out) can i)) (λ e. e) (cond-true (composes name xs out) (Ok (length text)) (Err no_room) can i))
+    let room : length text ≤ length out = omega (arith, within-limit name xs (keeps-fit k), length-replicate {A = ℕ} request_limit 0) in
+    let (answer, left) = keeps-composed k out room in
+    sym (text_of (composing name xs out) (zeroed_or name out) (Ok (length text)) (padded (length out) text) (sym answer) (sym left))
     ∙ ap Ok (take_at text (replicate (length out - length text) 0) (length text) refl)
 
 pub shows_same : ShowsSame

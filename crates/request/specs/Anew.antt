@@ -8,14 +8,14 @@ use Rattle.requests.specs.declared.name.Name.{Name}
 use Rattle.requests.specs.declared.name.Name.TheVariants.{CreateSession, BindSession, Control}
 use Rattle.requests.specs.declared.name.Parameter.{Parameter}
 use Rattle.requests.specs.declared.name.Parameter.TheVariants.{Cid, User, Password, Session, RequestId, Operation, SubscriptionId, Group, Schema, Mode, Snapshot}
-use Rattle.compose.specs.Composed.{bytes_or, composing, length_or, zeroed_or}
-use Rattle.compose.specs.Drafts.{Draft}
-use Rattle.compose.specs.Written.{Pair, pair}
+use Rattle.compose.specs.Composed.{composing, zeroed_or}
+use Rattle.compose.specs.Drafts.{Draft, bytes_or, length_or}
+use Rattle.compose.specs.Written.{Assignment, assign}
 
 -- a pair that may be left out
-abbrev pub optional : Parameter → Option (List ℕ) → List Pair → List Pair
+abbrev pub optional : Parameter → Option (List ℕ) → List Assignment → List Assignment
 optional p None xs = xs
-optional p (Some v) xs = pair p v ∷ xs
+optional p (Some v) xs = assign p v ∷ xs
 
 -- a password is shown by this word
 abbrev pub redacted : Option (List ℕ) → Option (List ℕ)
@@ -28,19 +28,24 @@ name_for (add r id g) = Control
 name_for (delete r id) = Control
 name_for (rebind r) = Control
 
-abbrev pub pairs_for : ℕ → Request → List Pair
-pairs_for session (create c u w) = pair Cid c ∷ optional User u (optional Password (redacted w) [])
-pairs_for session bind = pair Session (session_name session) ∷ []
+abbrev pub pairs_for : ℕ → Request → List Assignment
+pairs_for session (create c u w) =
+    assign Cid c ∷ optional User u (optional Password (redacted w) [])
+pairs_for session bind = assign Session (session_name session) ∷ []
 pairs_for session (add r id g) =
-    pair RequestId r ∷ pair Operation (codes "add") ∷ pair SubscriptionId (decimal id) ∷ pair Group g ∷ pair Schema (codes "all") ∷ pair Mode (codes "MERGE") ∷ pair Snapshot (codes "true") ∷ []
-pairs_for session (delete r id) = pair RequestId r ∷ pair Operation (codes "delete") ∷ pair SubscriptionId (decimal id) ∷ []
-pairs_for session (rebind r) = pair RequestId r ∷ pair Operation (codes "force_rebind") ∷ []
+    assign RequestId r ∷ assign Operation (codes "add") ∷ assign SubscriptionId
+    (decimal id) ∷ assign Group g ∷ assign Schema (codes "all") ∷ assign Mode
+    (codes "MERGE") ∷ assign Snapshot (codes "true") ∷ []
+pairs_for session (delete r id) =
+    assign RequestId r ∷ assign Operation (codes "delete") ∷ assign SubscriptionId (decimal id) ∷ []
+pairs_for session (rebind r) = assign RequestId r ∷ assign Operation (codes "force_rebind") ∷ []
 
 -- the request in some bytes
 abbrev pub anew : ℕ → Request → List ℕ → Result Draft Refusal
 anew session q out = composing (name_for q) (pairs_for session q) out
 
 -- what is answered, and what is left in the bytes
-pub record Anew (session : ℕ) (q : Request) (out : List ℕ) (r : Result ℕ Refusal) (bytes : List ℕ) : Type 0 where
+pub record Anew (session : ℕ) (q : Request) (out : List ℕ) (r : Result ℕ Refusal)
+    (bytes : List ℕ) : Type 0 where
   pub length : r ≡ length_or (anew session q out)
   pub text : bytes ≡ bytes_or (zeroed_or (name_for q) out) (anew session q out)

@@ -1,4 +1,5 @@
-//! A request written anew by the request writer: its parameters in a fixed order, and its password kept back.
+//! A request written anew by the request writer: its parameters in a fixed order, and its password
+//! kept back.
 ghost use Rattle.std.specs.Prelude.{◌≡◌, ℕ};
 ghost use Rattle.std.specs.Option.{option_map};
 ghost use Rattle.requests.specs.Answers.{request_in};
@@ -7,7 +8,7 @@ ghost use Rattle.requests.specs.Requests.{add, bind, create, delete, rebind};
 ghost use Rattle.request.specs.Anew.{Anew};
 
 use crate::numbered::numbered;
-use compose::{Pair, RequestWriter, compose};
+use compose::{Assignment, RequestWriter, compose};
 use requests::{Name, Parameter, Request, Word};
 use row::Refusal;
 
@@ -20,10 +21,11 @@ fn create_anew(
     user: Option<Word>,
     password: Option<Word>,
 ) -> Result<usize, Refusal>
-    ensures { (session : ℕ) → Anew session (create (word_text cid) (option_map word_text user) (option_map word_text password)) out.old result out.new }
+    ensures { (session : ℕ) → Anew session
+        (create (word_text cid) (option_map word_text user) (option_map word_text password))
+        out.old result out.new }
 {
     let mut request = RequestWriter::new(out, Name::CreateSession);
-    request.begin()?;
     request.add(Parameter::Cid, cid.text())?;
     if let Some(user) = user {
         request.add(Parameter::User, user.text())?;
@@ -31,41 +33,43 @@ fn create_anew(
     if password.is_some() {
         request.add(Parameter::Password, REDACTED)?;
     }
-    Ok(request.finish().len)
+    request.finish().map(|finished| finished.len)
 }
 
 fn bind_anew(out: &mut [u8], session: u32) -> Result<usize, Refusal>
     ensures { Anew session bind out.old result out.new }
 {
     let name = numbered(b"S", session);
-    let pairs = [Pair::new(Parameter::Session, name.text())];
+    let pairs = [Assignment::new(Parameter::Session, name.text())];
     compose(out, Name::BindSession, &pairs)
 }
 
 fn add_anew(out: &mut [u8], request: Word, subscription: u32, group: Word) -> Result<usize, Refusal>
-    ensures { (session : ℕ) → Anew session (add (word_text request) subscription (word_text group)) out.old result out.new }
+    ensures { (session : ℕ) → Anew session
+        (add (word_text request) subscription (word_text group)) out.old result out.new }
 {
     let id = numbered(b"", subscription);
     let pairs = [
-        Pair::new(Parameter::RequestId, request.text()),
-        Pair::new(Parameter::Operation, b"add"),
-        Pair::new(Parameter::SubscriptionId, id.text()),
-        Pair::new(Parameter::Group, group.text()),
-        Pair::new(Parameter::Schema, b"all"),
-        Pair::new(Parameter::Mode, b"MERGE"),
-        Pair::new(Parameter::Snapshot, b"true"),
+        Assignment::new(Parameter::RequestId, request.text()),
+        Assignment::new(Parameter::Operation, b"add"),
+        Assignment::new(Parameter::SubscriptionId, id.text()),
+        Assignment::new(Parameter::Group, group.text()),
+        Assignment::new(Parameter::Schema, b"all"),
+        Assignment::new(Parameter::Mode, b"MERGE"),
+        Assignment::new(Parameter::Snapshot, b"true"),
     ];
     compose(out, Name::Control, &pairs)
 }
 
 fn delete_anew(out: &mut [u8], request: Word, subscription: u32) -> Result<usize, Refusal>
-    ensures { (session : ℕ) → Anew session (delete (word_text request) subscription) out.old result out.new }
+    ensures { (session : ℕ) → Anew session
+        (delete (word_text request) subscription) out.old result out.new }
 {
     let id = numbered(b"", subscription);
     let pairs = [
-        Pair::new(Parameter::RequestId, request.text()),
-        Pair::new(Parameter::Operation, b"delete"),
-        Pair::new(Parameter::SubscriptionId, id.text()),
+        Assignment::new(Parameter::RequestId, request.text()),
+        Assignment::new(Parameter::Operation, b"delete"),
+        Assignment::new(Parameter::SubscriptionId, id.text()),
     ];
     compose(out, Name::Control, &pairs)
 }
@@ -74,8 +78,8 @@ fn rebind_anew(out: &mut [u8], request: Word) -> Result<usize, Refusal>
     ensures { (session : ℕ) → Anew session (rebind (word_text request)) out.old result out.new }
 {
     let pairs = [
-        Pair::new(Parameter::RequestId, request.text()),
-        Pair::new(Parameter::Operation, b"force_rebind"),
+        Assignment::new(Parameter::RequestId, request.text()),
+        Assignment::new(Parameter::Operation, b"force_rebind"),
     ];
     compose(out, Name::Control, &pairs)
 }

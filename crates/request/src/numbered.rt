@@ -1,6 +1,6 @@
 //! A number behind a word, as text.
 ghost use Rattle.std.specs.Prelude.{◌≡◌, ◌≤◌, ◌++◌, length, decimal};
-ghost use Rattle.tlcp.specs.Bounds.{text_of};
+ghost use Rattle.tlcp.specs.Bounds.{bounded_text};
 
 use tlcp::Bounded;
 
@@ -9,7 +9,7 @@ const ROOM: usize = 11;
 
 pub(crate) fn numbered(front: &[u8], n: u32) -> Bounded<ROOM>
     requires { length front.now ≤ 1 }
-    ensures { text_of result ≡ front.now ++ decimal n }
+    ensures { bounded_text result ≡ front.now ++ decimal n }
 {
     let mut text = Bounded::new();
     // there is room for both

@@ -7,7 +7,7 @@ use Rattle.std.proofs.ByRecursion.{Decides-by_and}
 use Rattle.row.specs.Texts.{every}
 use Rattle.tlcp.specs.Bytes.{is_alphanumeric, is_digit}
 use Rattle.tlcp.specs.Limits.{id_limit}
-use Rattle.tlcp.specs.Numbers.{number_of}
+use Rattle.tlcp.specs.Numbers.{read_number}
 use Rattle.tlcp.specs.Lines.{same_bytes}
 use Rattle.tlcp.proofs.Numerals.{reads-decimal}
 use Rattle.tlcp.proofs.Words.{same_bytes_lem}
@@ -38,10 +38,10 @@ decides-every p = Decides-by_and p (λ b. p b ≡ true) (every p) (λ b. (λ e. 
 decides-three : {P Q R : Type 0} {x y z : Bool} → Decides x P → Decides y Q → Decides z R → Decides (x && (y && z)) (P × Q × R)
 decides-three {x = x} {y = y} {z = z} p q r = Decides-like _ (λ h. (h.0, h.1.0, h.1.1)) (λ h. (h.0, (h.1, h.2))) (Decides-and x (y && z) p (Decides-and y z q r))
 
-decides-id : (t : List ℕ) → Decides (is_some (number_of 1 id_limit t)) (Right 0 SubscriptionId t)
+decides-id : (t : List ℕ) → Decides (is_some (read_number 1 id_limit t)) (Right 0 SubscriptionId t)
 decides-id t = (
   λ e.
-      let (n, is) = some_is (number_of 1 id_limit t) e in
+      let (n, is) = some_is (read_number 1 id_limit t) e in
       let (same, low, high) = (reads-decimal 1 id_limit n t (lit< tt)).0 is in
       (n, same, low, high),
   λ h. ap is_some ((reads-decimal 1 id_limit h.0 t (lit< tt)).1 h.1 h.2 h.3),

@@ -4,3 +4,5 @@ pub mod Fitting
 pub mod Pairing
 pub mod Forming
 pub mod Asking
+pub mod Refusing
+pub mod Wording

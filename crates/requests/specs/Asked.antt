@@ -27,7 +27,7 @@ abbrev pub spelling : Given → List ℕ
 spelling g = parameter_word g.parameter ++ (61 ∷ g.raw)
 
 -- the bytes are unreserved ones and escapes, and not too many when decoded
-pub record Sound (g : Given) : Type 0 where
+pub record Readable (g : Given) : Type 0 where
   pub plain : AllByRecursion (λ b. is_plain b ≡ true) g.raw
   pub decodes : Decodes g.raw g.text
   pub short : length g.text ≤ value_limit
@@ -64,7 +64,8 @@ Right session Cid t = Unit {0}
 Right session User t = Unit {0}
 Right session Password t = Unit {0}
 Right session Session t = t ≡ session_name session
-Right session RequestId t = (1 ≤ length t) × (length t ≤ request_id_limit) × AllByRecursion (λ b. is_alphanumeric b ≡ true) t
+Right session RequestId t = (1 ≤ length t) × (length t ≤ request_id_limit)
+    × AllByRecursion (λ b. is_alphanumeric b ≡ true) t
 Right session Operation t = Unit {0}
 Right session SubscriptionId t = (n : ℕ) × (t ≡ decimal n) × (1 ≤ n) × (n ≤ id_limit)
 Right session Group t = (ds : List ℕ) × (t ≡ 116 ∷ ds) × Numeral ds
@@ -79,7 +80,7 @@ pub record Asks (session : ℕ) (s : List ℕ) (q : Request) : Type 0 where
   pub pairs : List Given
   pub short : length s ≤ request_limit
   pub whole : s ≡ name_word name ++ (13 ∷ 10 ∷ joined_by 38 (map spelling pairs))
-  pub sound : AllByRecursion Sound pairs
+  pub sound : AllByRecursion Readable pairs
   pub apart : Apart pairs
   pub formed : Formed name (found pairs Operation) form
   pub all : AllByRecursion (λ p. is_some (found pairs p) ≡ true) (needs form)
@@ -89,4 +90,6 @@ pub record Asks (session : ℕ) (s : List ℕ) (q : Request) : Type 0 where
 
 -- the reader accepts exactly the bytes that ask for a request, and takes them for it
 abbrev pub ReadsAsked : Type 0
-ReadsAsked = (session : ℕ) (s : List ℕ) (q : Request) → (read_request session s ≡ Ok q → Asks session s q) × (Asks session s q → read_request session s ≡ Ok q)
+ReadsAsked = (session : ℕ) (s : List ℕ) (q : Request)
+    → (read_request session s ≡ Ok q → Asks session s q)
+    × (Asks session s q → read_request session s ≡ Ok q)

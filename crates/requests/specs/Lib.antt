@@ -5,3 +5,5 @@ pub mod Requests
 pub mod Asked
 pub mod Read
 pub mod Answers
+pub mod Refused
+pub mod Words

@@ -1,8 +1,7 @@
 -- The names of requests and of their parameters.
-use Rattle.std.specs.Prelude.{ℕ, Bool, cond, List, [], ◌∷◌, Some, None, codes, Option, ◌==◌}
+use Rattle.std.specs.Prelude.{ℕ, Bool, List, [], ◌∷◌, codes, Option, ◌==◌}
 use Rattle.std.specs.List.{list_any}
 use Rattle.tlcp.specs.Dividing.{first_with}
-use Rattle.tlcp.specs.Lines.{same_bytes}
 use Rattle.requests.specs.declared.name.Name.{Name}
 use Rattle.requests.specs.declared.name.Name.TheVariants.{CreateSession, BindSession, Control}
 use Rattle.requests.specs.declared.name.Parameter.{Parameter}
@@ -77,11 +76,12 @@ form_word Add = codes "add"
 form_word Delete = codes "delete"
 form_word ForceRebind = codes "force_rebind"
 
--- the operations of a control request, by the value of LS_op
+abbrev pub operations : List Form
+operations = Add ∷ Delete ∷ ForceRebind ∷ []
+
+-- the operation of a control request, by the value of LS_op
 abbrev pub operation_of : List ℕ → Option Form
-operation_of t =
-    cond (same_bytes t (codes "add")) (Some Add)
-    (cond (same_bytes t (codes "delete")) (Some Delete) (cond (same_bytes t (codes "force_rebind")) (Some ForceRebind) None))
+operation_of = first_with form_word operations
 
 -- the parameters that a form of request needs, in the order in which they are checked
 abbrev pub needs : Form → List Parameter

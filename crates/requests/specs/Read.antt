@@ -2,17 +2,17 @@
 use Rattle.std.specs.Prelude.{ℕ, List, map}
 use Rattle.std.specs.Option.{option_map}
 use Rattle.requests.specs.Requests as asked
-use Rattle.requests.specs.declared.pairs.Pair.{Pair}
-use Rattle.requests.specs.declared.pairs.Pairs.{Pairs}
+use Rattle.requests.specs.declared.occurrences.Occurrence.{Occurrence}
+use Rattle.requests.specs.declared.occurrences.Occurrences.{Occurrences}
 use Rattle.requests.specs.Limits.{value_limit}
 use Rattle.tlcp.specs.Bounds as bounds
 use Rattle.tlcp.specs.declared.bounded.Bounded.{Bounded}
 
 abbrev pub word_text : Bounded value_limit → List ℕ
-word_text = bounds.text_of
+word_text = bounds.bounded_text
 
-abbrev pub pair_in : Pair → asked.Pair
-pair_in p = record { at = p.at; value_at = p.value_at; text = word_text p.word }
+abbrev pub occurrence_in : Occurrence → asked.Occurrence
+occurrence_in p = record { at = p.at; value_at = p.value_at; text = word_text p.word }
 
-abbrev pub pairs_in : Pairs → asked.Pairs
-pairs_in ps = map (option_map pair_in) ps.slots
+abbrev pub occurrences_in : Occurrences → asked.Occurrences
+occurrences_in ps = map (option_map occurrence_in) ps.slots

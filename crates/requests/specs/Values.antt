@@ -8,7 +8,7 @@ use Rattle.row.specs.declared.fault.Refusal.{Refusal}
 use Rattle.tlcp.specs.Bytes.{is_alphanumeric, is_digit, is_plain}
 use Rattle.tlcp.specs.Escapes.{decoded}
 use Rattle.tlcp.specs.Limits.{id_limit}
-use Rattle.tlcp.specs.Numbers.{number_of}
+use Rattle.tlcp.specs.Numbers.{read_number}
 use Rattle.tlcp.specs.Lines.{same_bytes}
 use Rattle.requests.specs.Limits.{value_limit, request_id_limit}
 use Rattle.requests.specs.declared.name.Parameter.{Parameter}
@@ -44,7 +44,7 @@ fitting session Password t = true
 fitting session Session t = same_bytes t (session_name session)
 fitting session RequestId t = is_request_id t
 fitting session Operation t = true
-fitting session SubscriptionId t = is_some (number_of 1 id_limit t)
+fitting session SubscriptionId t = is_some (read_number 1 id_limit t)
 fitting session Group t = is_group t
 fitting session Schema t = same_bytes t (codes "all")
 fitting session Mode t = same_bytes t (codes "MERGE")

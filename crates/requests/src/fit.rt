@@ -8,10 +8,10 @@ use crate::name::Parameter;
 use row::Fault;
 use tlcp::{Class, Limits, all_of, is_word, read_number};
 
-/// The characters of a request's ID.
+/// How many letters or digits the value of `LS_reqId` has at most; it has at least one.
 pub const REQUEST_ID_LIMIT: usize = 8;
 
-// The numbers of sessions.
+// A session's number is compared with the one that the reader is given, which it takes as it is.
 const SESSION_NUMBERS: Limits = Limits {
     low: 0,
     high: u32::MAX,

@@ -3,12 +3,14 @@
 
 mod fit;
 mod name;
-mod pairs;
+mod occurrences;
 mod request;
+mod tables;
 mod whole;
 mod word;
 
 pub use fit::REQUEST_ID_LIMIT;
 pub use name::{Form, Name, PARAMETER_COUNT, Parameter, is_in};
 pub use request::{REQUEST_LIMIT, Request, read_request};
+pub use tables::request_tables;
 pub use word::{VALUE_LIMIT, Word};

@@ -4,6 +4,7 @@ ghost use Rattle.requests.specs.Names.{name_word, parameter_word, form_word, ind
 
 use tlcp::{Worded, first_with};
 
+/// The name of a request, which stands before its CR LF.
 #[derive(Clone, Copy, PartialEq, Eq, Debug)]
 pub enum Name {
     CreateSession,
@@ -11,6 +12,7 @@ pub enum Name {
     Control,
 }
 
+/// A parameter of a request, in the order in which the values of a control request are checked.
 #[derive(Clone, Copy, PartialEq, Eq, Debug)]
 pub enum Parameter {
     Cid,
@@ -26,10 +28,11 @@ pub enum Parameter {
     Snapshot,
 }
 
-/// How many parameters there are.
+/// How many parameters there are, over all names.
 pub const PARAMETER_COUNT: usize = 11;
 
-/// What a request asks for: its name, and of a control request its operation.
+/// What a request asks for: its name, and of a control request its operation. By its form it is
+/// known which parameters a request needs and which it may have.
 #[derive(Clone, Copy, PartialEq, Eq, Debug)]
 pub enum Form {
     Create,
@@ -57,15 +60,15 @@ impl Worded for Name {
 }
 
 impl Name {
-    /// The name that a word stands for.
-    // kept: an Option says all there is; TryFrom would want an error that says no more
+    /// The name that a word stands for, byte by byte with no decoding, if it is one of the three.
     pub fn of(word: &[u8]) -> Option<Name>
         ensures { result ≡ name_of word.now }
     {
         first_with(&NAMES, word)
     }
 
-    /// The parameters of any request of this name.
+    /// The parameters that a request of this name may have, whatever it asks for, in the order in
+    /// which their values are checked.
     pub fn parameters(self) -> &'static [Parameter]
         ensures { result.now ≡ parameters_of self }
     {
@@ -117,15 +120,16 @@ impl Worded for Parameter {
 }
 
 impl Parameter {
-    /// The parameter of a name that a word stands for.
-    // kept: an Option says all there is, and TryFrom takes one argument
+    /// The parameter of a name that a word stands for, byte by byte with no decoding, if it is one
+    /// of that name's.
     pub fn of(name: Name, word: &[u8]) -> Option<Parameter>
         ensures { result ≡ parameter_of name word.now }
     {
         first_with(name.parameters(), word)
     }
 
-    // kept: pairs and marks stand in arrays by it, in fixed memory, by the project's rule
+    /// The place of a parameter among all, below `PARAMETER_COUNT`: what is kept for each parameter
+    /// stands in an array by it.
     pub fn index(self) -> usize
         ensures value { result ≡ index_of self }
         ensures bound { result < parameter_count }
@@ -134,7 +138,8 @@ impl Parameter {
     }
 }
 
-// The word by which a request asks for a form: its operation's, or its name's where that has one form only.
+// The word by which a request asks for a form: its operation's, or its name's where that has one
+// form only.
 impl Worded for Form {
     ghost word_of = { form_word };
 
@@ -150,8 +155,7 @@ impl Worded for Form {
 }
 
 impl Form {
-    // The operation of a control request.
-    // kept: an Option says all there is; TryFrom would want an error that says no more
+    // The operation of a control request that a word stands for, if it is one.
     pub(crate) fn of_operation(word: &[u8]) -> Option<Form>
         ensures { result ≡ operation_of word.now }
     {
@@ -186,7 +190,7 @@ impl Form {
     }
 }
 
-/// Whether a parameter is one of some.
+/// Whether a parameter is one of these.
 pub fn is_in(parameter: Parameter, some: &[Parameter]) -> bool
     ensures { result ≡ is_in parameter some.now }
 {

@@ -1,16 +1,16 @@
 //! The pairs of a request that has all that its form needs.
 ghost use Rattle.std.specs.Prelude.{◌≡◌, false, None};
 ghost use Rattle.tlcp.specs.Limits.{id_limit};
-ghost use Rattle.tlcp.specs.Numbers.{number_of};
+ghost use Rattle.tlcp.specs.Numbers.{read_number};
 ghost use Rattle.std.specs.Result.{result_map_both};
 ghost use Rattle.requests.specs.Answers.{request_in};
 ghost use Rattle.requests.specs.Names.{needs};
-ghost use Rattle.requests.specs.Read.{pairs_in};
+ghost use Rattle.requests.specs.Read.{occurrences_in};
 ghost use Rattle.requests.specs.Requests.{check_values, fitting_or, lacks, value_of};
 ghost use Rattle.requests.specs.declared.name.Parameter.TheVariants.{SubscriptionId};
 
 use crate::name::{Form, Parameter};
-use crate::pairs::Pairs;
+use crate::occurrences::Occurrences;
 use crate::request::Request;
 use row::Refusal;
 use tlcp::{Limits, read_number};
@@ -18,15 +18,15 @@ use tlcp::{Limits, read_number};
 // Pairs, and a form whose needs are among them.
 #[derive(Clone, Copy)]
 pub(crate) struct Whole<'a> {
-    pub(crate) pairs: &'a Pairs,
+    pub(crate) pairs: &'a Occurrences,
     pub(crate) form: Form,
-    ghost given: { lacks (needs form) (pairs_in pairs.now) ≡ false },
+    ghost given: { lacks (needs form) (occurrences_in pairs.now) ≡ false },
 }
 
 impl Whole<'_> {
     // Checks the values that the form needs, in their order.
     fn check(&self, session: u32) -> Result<(), Refusal>
-        ensures { result ≡ check_values session (needs self.now.form) (pairs_in self.now.pairs.now) }
+        ensures { result ≡ check_values session (needs self.now.form) (occurrences_in self.now.pairs.now) }
     {
         for p in self.form.needs() {
             let pair = self.pairs.given(*p);
@@ -39,7 +39,7 @@ impl Whole<'_> {
 
     // The ID of a subscription, if the value is one.
     fn subscription(&self) -> Option<u32>
-        ensures { result ≡ number_of 1 id_limit (value_of SubscriptionId (pairs_in self.now.pairs.now)) }
+        ensures { result ≡ read_number 1 id_limit (value_of SubscriptionId (occurrences_in self.now.pairs.now)) }
     {
         let id = self.pairs.word(Parameter::SubscriptionId)?;
         read_number(id.text(), Limits::ID)
@@ -47,7 +47,7 @@ impl Whole<'_> {
 
     // What the pairs ask for in the form, if it takes their values.
     pub(crate) fn request(&self, session: u32) -> Result<Request, Refusal>
-        ensures { result_map_both request_in (λ e. e) result ≡ fitting_or session self.now.form (pairs_in self.now.pairs.now) None }
+        ensures { result_map_both request_in (λ e. e) result ≡ fitting_or session self.now.form (occurrences_in self.now.pairs.now) None }
     {
         self.check(session)?;
         let pairs = self.pairs;

@@ -8,10 +8,10 @@ use crate::request::Part;
 use row::{Fault, Refusal};
 use tlcp::{Bounded, Class, all_of};
 
-/// The bytes of a value, decoded.
+/// How many bytes the value of a parameter stands for at most, its escapes decoded.
 pub const VALUE_LIMIT: usize = 64;
 
-/// A value, decoded.
+/// The value of a parameter as the bytes that it stands for, at most `VALUE_LIMIT` of them.
 pub type Word = Bounded<VALUE_LIMIT>;
 
 pub(crate) fn read_value(raw: Part<'_>) -> Result<Word, Refusal>

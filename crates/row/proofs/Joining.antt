@@ -2,8 +2,8 @@
 use Rattle.std.proofs.Common.{◌≡◌, ℕ, zero, suc, ◌<◌, true, List, [], ◌∷◌, length, replicate, get_or, refl, sym, ap, ◌∙◌, arith}
 use Rattle.std.proofs.lemmas.Bool.{both_ways}
 use Rattle.row.specs.Limits.{field_limit}
-use Rattle.row.specs.RowLaws.{cell_at, change_at, RowLaws}
-use Rattle.row.specs.Rows.{Cell, Change, null, value, same, becomes, over, change_cell, join_change, changed, join, is_same}
+use Rattle.row.specs.RowLaws.{change_at, RowLaws}
+use Rattle.row.specs.Rows.{Cell, Change, null, value, same, becomes, over, change_cell, join_change, changed, is_same}
 
 -- where a change gives its place g of a cell, it does so at each place that has one
 over-set :

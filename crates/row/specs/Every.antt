@@ -1,7 +1,8 @@
 -- A test at each element of a list, and a list with zeros behind it.
-use Rattle.std.specs.Prelude.{◌≡◌, ℕ, zero, suc, ◌+◌, ◌-◌, ◌<◌, ◌≤◌, Bool, true, false, cond, List, [], ◌∷◌, ◌++◌, length, take, drop, set, replicate, Some, None, ◌==◌, ◌≢◌, nat_le, slice_index, slice_index_or, slice_set, refl}
+use Rattle.std.specs.Prelude.{◌≡◌, ℕ, zero, suc, ◌+◌, ◌-◌, ◌<◌, ◌≤◌, Bool, true, false, cond, List, [], ◌∷◌, ◌++◌, length, take, drop, set, ◌&&◌, replicate, Some, None, ◌==◌, ◌≢◌, nat_le, slice_index, slice_index_or, slice_set, refl}
 use Rattle.std.proofs.Common.{sym, ap, ◌∙◌, ⊎_elim, append_assoc, le_of_suc-le-suc, not-suc-le-zero, arith}
 use Rattle.std.specs.List.{AllByRecursion}
+use Rattle.std.specs.Str.{bytes_eq}
 use Rattle.std.proofs.lemmas.List.{get_or-drop, length-append, length-drop, length-take, take-append-drop, take_more, drop_all, drop-append-le, drop_at, set_at, length-take-le, take_at}
 use Rattle.std.proofs.ByRecursion.{All-weaker, Decides-by_and}
 use Rattle.std.proofs.lemmas.List.Folds.{list_all-append}
@@ -59,10 +60,20 @@ padded-more n xs i x h room read =
     ∙ ap (λ l. l ++ replicate (n - (i + 1)) 0) (sym more)
     ∙ ap (λ m. take (i + 1) xs ++ replicate (n - m) 0) (sym longer)
 
--- the bytes and the length of a sound text
-pub sound-from : (r : TextRecord) → r.len ≤ text_limit → ((i : ℕ) → slice_index r.bytes i < 256) → every is_zero (drop r.len r.bytes) ≡ true → text_sound r ≡ true
-sound-from r small bytes zeros =
-    and_from _ _ (le-leb r.len text_limit small) (and_from _ _ (bytes-every r.bytes bytes) zeros)
+-- a record of bytes whose length is within the limit is sound where what stands behind its text is zero
+pub sound-by-zeros :
+    (r : TextRecord) → r.len ≤ text_limit → ((i : ℕ) → slice_index r.bytes i < 256)
+    → text_sound r ≡ every is_zero (drop r.len r.bytes)
+sound-by-zeros r small bytes i =
+    le-leb r.len text_limit small i && (bytes-every r.bytes bytes i && every is_zero (drop r.len r.bytes))
+
+-- bytes are as many zeros where each of them is zero
+pub same-zeros :
+    (n : ℕ) (xs : List ℕ) → length xs ≡ n → bytes_eq xs (replicate n 0) ≡ every is_zero xs
+same-zeros zero [] h = refl
+same-zeros zero (x ∷ xs) h = absurd (omega arith)
+same-zeros (suc n) [] h = absurd (omega arith)
+same-zeros (suc n) (x ∷ xs) h = ap (λ rest. is_zero x && rest) (same-zeros n xs (omega arith))
 
 pub every_more : (p : ℕ → Bool) (xs : List ℕ) (i x : ℕ) → i < length xs → x ≡ slice_index xs i → every p (take i xs) ≡ true → p x ≡ true → every p (take (i + 1) xs) ≡ true
 every_more p xs i x h read e f =
@@ -100,13 +111,13 @@ zero-behind r i h above e =
 pub not_sound : (r : TextRecord) (i : ℕ) → i < length r.bytes → r.len ≤ i → (slice_index r.bytes i ≢ 0) → text_sound r ≡ false
 not_sound r i h above ne = ⊎_elim (λ e. absurd (ne (zero-behind r i h above e))) (λ e. e) (cases_Bool (text_sound r))
 
-pub allowed-from : (t : List ℕ) → length t ≤ 32 → every is_byte t ≡ true → text_allowed t ≡ true
-allowed-from t small e = and_from _ _ (le-leb (length t) 32 small) e
+pub allowed-from : (t : List ℕ) → length t ≤ text_limit → every is_byte t ≡ true → text_allowed t ≡ true
+allowed-from t small e = and_from _ _ (le-leb (length t) text_limit small) e
 
 pub record-sound : (t : List ℕ) → text_allowed t ≡ true → text_sound (text_record t) ≡ true
 record-sound t e =
     let h = and_parts _ _ e in
-    and_from _ _ h.0 (and_from _ _ (every-padded 32 t h.1) (ap (every is_zero) (drop-padded 32 t) ∙ every-replicate is_zero (32 - length t) 0 refl))
+    and_from _ _ h.0 (and_from _ _ (every-padded text_limit t h.1) (ap (every is_zero) (drop-padded text_limit t) ∙ every-replicate is_zero (text_limit - length t) 0 refl))
 
 -- a list that is zero from n on is its front with zeros behind it
 pub padded-front : (n m : ℕ) (xs : List ℕ) → n ≤ m → length xs ≡ m → every is_zero (drop n xs) ≡ true → xs ≡ padded m (take n xs)
@@ -126,15 +137,15 @@ pub text-lawful : Lawful text_kind
 text-lawful = record {
   rest-allowed = refl;
   text-allowed = λ r. cond_both (text_sound r) (take r.len r.bytes) [] (λ t. text_allowed t ≡ true) (allowed-take r) (λ e. refl);
-  text-raw = λ t e. cond-true (text_sound (text_record t)) (take (length t) (padded 32 t)) [] (record-sound t e) ∙ take-padded 32 t;
-  short = λ t e. leb-true (length t) 32 (and_parts (nat_le (length t) 32) (every is_byte t) e).0;
-  bytes = λ t e. all-bytes t (and_parts (nat_le (length t) 32) (every is_byte t) e).1;
+  text-raw = λ t e. cond-true (text_sound (text_record t)) (take (length t) (padded text_limit t)) [] (record-sound t e) ∙ take-padded text_limit t;
+  short = λ t e. leb-true (length t) text_limit (and_parts (nat_le (length t) text_limit) (every is_byte t) e).0;
+  bytes = λ t e. all-bytes t (and_parts (nat_le (length t) text_limit) (every is_byte t) e).1;
 }
   where
     allowed-take : (r : TextRecord) → text_sound r ≡ true → text_allowed (take r.len r.bytes) ≡ true
     allowed-take r e =
         let h = and_parts (nat_le r.len text_limit) _ e in
-        let small = leb-true r.len 32 h.0 in
+        let small = leb-true r.len text_limit h.0 in
         let all = (and_parts (every is_byte r.bytes) (every is_zero (drop r.len r.bytes)) h.1).0 in
         allowed-from (take r.len r.bytes) (simp length-take (omega arith)) (every_take is_byte r.len r.bytes all)
 

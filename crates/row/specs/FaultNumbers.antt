@@ -1,6 +1,6 @@
 -- The numbers by which refusals are known, from 1 on, in the order in which the pages list them.
 use Rattle.std.specs.Prelude.{◌≡◌, ℕ, List, [], ◌∷◌, map, Err}
-use Rattle.row.specs.Faults.{Answer, by_numbers, number_of, refusal, refused}
+use Rattle.row.specs.Faults.{by_numbers, number_of, refusal, refused}
 use Rattle.row.specs.declared.fault.Fault.{Fault}
 use Rattle.row.specs.declared.fault.Fault.TheVariants.{Memory, Shape, Escape, Number, Unknown, Parts, Cover, Value, State, Absent, Order, Subscribed, Full, Wire, Nothing, Length}
 

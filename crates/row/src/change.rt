@@ -51,33 +51,35 @@ impl<R: Value> Cell<R> {
     }
 
     // The cell that holds what a record means.
-    fn holding(raw: R) -> Cell<R>
+    fn holding(mut raw: R) -> Cell<R>
         ensures { result ≡ cell_record R.kind (value (R.kind.text raw)) }
     {
-        Cell {
-            null: false,
-            raw: raw.canonical(),
-        }
+        raw.canonicalize();
+        Cell { null: false, raw }
     }
 
-    /// The cell by the record that memory holds for its meaning: the rest record where it is null,
-    /// the rest value's where its record is not sound.
-    pub fn canonical(self) -> Cell<R>
-        ensures record { result ≡ canonical_cell R.kind self }
-        ensures means { cell_of R.kind result ≡ cell_of R.kind self }
+    /// Makes the cell hold the record of its meaning: the rest record where it is null, the rest value's
+    /// where its record is not sound.
+    pub fn canonicalize(&mut self)
+        ensures record { self.new ≡ canonical_cell R.kind self.old }
+        ensures means { cell_of R.kind self.new ≡ cell_of R.kind self.old }
     {
         if self.null {
-            return Cell::null();
+            self.raw = R::rest();
+        } else {
+            self.raw.canonicalize();
         }
-        Cell::holding(self.raw)
     }
 
     /// The cell after a change, by the record of its meaning.
-    pub fn changed_by(self, by: Change<R>) -> Cell<R>
+    pub fn changed_by(mut self, by: Change<R>) -> Cell<R>
         ensures { result ≡ takes R.kind self by }
     {
         match by.mark {
-            Mark::Same => self.canonical(),
+            Mark::Same => {
+                self.canonicalize();
+                self
+            }
             Mark::Null => Cell::null(),
             Mark::Value => Cell::holding(by.raw),
         }
@@ -118,12 +120,13 @@ impl<R: Value> Change<R> {
     }
 
     // The change that makes its cell hold what a record means.
-    fn setting(raw: R) -> Change<R>
+    fn setting(mut raw: R) -> Change<R>
         ensures { result ≡ change_record R.kind (becomes (value (R.kind.text raw))) }
     {
+        raw.canonicalize();
         Change {
             mark: Mark::Value,
-            raw: raw.canonical(),
+            raw,
         }
     }
 
@@ -169,8 +172,13 @@ trait Step<By>: Copy {
 impl<R: Value> Step<Change<R>> for Cell<R> {
     ghost after = { takes R.kind };
 
+    // most changes are same, and need no copy
     fn step(&mut self, by: &Change<R>) {
-        *self = self.changed_by(*by);
+        if by.is_same() {
+            self.canonicalize();
+        } else {
+            *self = self.changed_by(*by);
+        }
     }
 }
 

@@ -14,9 +14,9 @@ use crate::value::Value;
 /// since lent memory can hold any; one that is not sound means the rest value, one low bit.
 #[derive(Clone, Copy, PartialEq, Debug)]
 pub struct LogicRecord {
-    /// The low word of each bit's pair, the highest bit first: set for `1` and `x`.
+    /// The word a: a bit is 1 for `1` and `x`. The last character has the lowest bit.
     pub a: u32,
-    /// The high word of each bit's pair: set for `z` and `x`.
+    /// The word b: a bit is 1 for `z` and `x`.
     pub b: u32,
     /// The number of bits.
     pub width: u8,
@@ -61,6 +61,21 @@ fn bit_at(word: u32, place: u8) -> u32
     ensures { result ≡ bit_at word place }
 {
     (word >> place) & 1
+}
+
+impl LogicRecord {
+    // Whether it holds a logic value.
+    #[inline(always)]
+    fn is_sound(self) -> bool
+        ensures { result ≡ logic_sound self }
+    {
+        let LogicRecord { a, b, width } = self;
+        if width == 0 || width as usize > TEXT_LIMIT {
+            return false;
+        }
+        let end = 1u64 << width;
+        u64::from(a) < end && u64::from(b) < end
+    }
 }
 
 impl From<Logic> for LogicRecord {
@@ -110,11 +125,7 @@ impl Logic {
     pub fn check(held: LogicRecord) -> Option<Logic>
         ensures { option_map (λ l. l.held) result ≡ (if logic_sound held then Some held else None) }
     {
-        if held.width == 0 || held.width as usize > TEXT_LIMIT {
-            return None;
-        }
-        let end = 1u64 << held.width;
-        if held.a as u64 >= end || held.b as u64 >= end {
+        if !held.is_sound() {
             return None;
         }
         Some(Logic { held })
@@ -160,7 +171,9 @@ impl Value for LogicRecord {
         Logic::meant_by(*self).write(out)
     }
 
-    fn canonical(&self) -> LogicRecord {
-        Logic::meant_by(*self).into()
+    fn canonicalize(&mut self) {
+        if !self.is_sound() {
+            *self = Logic::rest().into();
+        }
     }
 }

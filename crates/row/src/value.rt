@@ -25,9 +25,9 @@ pub trait Value: Copy {
         ensures length { result ≡ length (kind.text self.now) }
         ensures bytes { out.new ≡ padded text_limit (kind.text self.now) };
 
-    /// The record of the value that this one means.
-    fn canonical(&self) -> Self
-        ensures { result ≡ kind.raw (kind.text self.now) };
+    /// Makes the record that of the value that it means: one that is not sound becomes the rest value's.
+    fn canonicalize(&mut self)
+        ensures { self.new ≡ kind.raw (kind.text self.old) };
 
     ghost lawful: { Lawful kind };
 }
@@ -49,8 +49,10 @@ impl Value for TextRecord {
         Text::meant_by(*self).write(out)
     }
 
-    fn canonical(&self) -> TextRecord {
-        Text::meant_by(*self).into()
+    fn canonicalize(&mut self) {
+        if !self.is_sound() {
+            *self = Text::rest().into();
+        }
     }
 }
 

@@ -13,7 +13,7 @@ use Rattle.row.specs.declared.change.Change.{Change}
 use Rattle.row.specs.declared.change.Mark.{Mark}
 use Rattle.row.specs.declared.change.Mark.TheVariants.{Same, Null, Value}
 use Rattle.tlcp.specs.Lists.{each_piped, Allowed, read_list, run_values, text_value, written_values, written_list}
-use Rattle.tlcp.specs.Bounds.{text_of}
+use Rattle.tlcp.specs.Bounds.{bounded_text}
 use Rattle.tlcp.specs.declared.bounded.Bounded.{Bounded}
 use Rattle.tlcp.specs.Written.{field_room, piped_limit, values_of, changes_of}
 use Rattle.tlcp.proofs.Dividing.{behind-joined}
@@ -85,8 +85,8 @@ module _ {R : Type 0} (k : Kind R) where
             short = omega (arith, h.short, ap length whole, length-append (front ++ gone) mine, length-append front gone, short-run run (omega (arith, few)), value-short law x.mark x.raw);
           }
 
-  pub before-is : (delta : List (Change R)) {i run a N : ℕ} {list put : Bounded N} → a ≡ run → put ≡ list → Before delta i run (text_of list) → Before delta i a (text_of put)
-  before-is delta {i} {run} {a} {N} {list} {put} p q h = subst (λ l. Before delta i a (text_of l)) (sym q) (subst (λ j. Before delta i j (text_of list)) (sym p) h)
+  pub before-is : (delta : List (Change R)) {i run a N : ℕ} {list put : Bounded N} → a ≡ run → put ≡ list → Before delta i run (bounded_text list) → Before delta i a (bounded_text put)
+  before-is delta {i} {run} {a} {N} {list} {put} p q h = subst (λ l. Before delta i a (bounded_text l)) (sym q) (subst (λ j. Before delta i j (bounded_text list)) (sym p) h)
 
   all-allowed : Lawful k → (cs : List (Change R)) → AllByRecursion (Allowed k.allowed) (map (change_of k) cs)
   all-allowed law [] = tt

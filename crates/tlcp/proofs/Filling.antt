@@ -12,13 +12,13 @@ use Rattle.tlcp.specs.Held.{filled, size, size_or, slot_after}
 use Rattle.row.specs.Faults.{moved}
 use Rattle.tlcp.specs.Lists.{Meant, sames, one, values, read_value, read_values, take_meant, ahead, uncovered}
 use Rattle.tlcp.proofs.Reading.{refused}
-use Rattle.tlcp.proofs.Spelling.{changes_of}
+use Rattle.tlcp.proofs.Spelling.{meant_changes}
 
 pub ahead-ahead : (d e : List Change) (r : Result (List Change) Refusal) → ahead (d ++ e) r ≡ ahead d (ahead e r)
 ahead-ahead d e (Ok c) = ap Ok (append_assoc d e c)
 ahead-ahead d e (Err r) = refl
 
-pub length-changes : (m : Meant) → length (changes_of m) ≡ size m
+pub length-changes : (m : Meant) → length (meant_changes m) ≡ size m
 length-changes (sames n) = length-replicate n same
 length-changes (one c) = refl
 
@@ -32,7 +32,7 @@ module _ (allowed : List ℕ → Bool) (at left : ℕ) (v : List ℕ) (vs : List
   pub value-refused : (r : Refusal) → read_value allowed v ≡ Err r → read_values allowed at left (v ∷ vs) ≡ Err (moved at r)
   value-refused r e = some_left ∙ ap (take_meant left at others) e
 
-  pub value_taken : (m : Meant) → read_value allowed v ≡ Ok m → size m ≤ left → read_values allowed at left (v ∷ vs) ≡ ahead (changes_of m) (read_values allowed (at + length v + 1) (left - size m) vs)
+  pub value_taken : (m : Meant) → read_value allowed v ≡ Ok m → size m ≤ left → read_values allowed at left (v ∷ vs) ≡ ahead (meant_changes m) (read_values allowed (at + length v + 1) (left - size m) vs)
   value_taken (sames n) e h = some_left ∙ ap (take_meant left at others) e ∙ cond-true (leb n left) _ _ (le-leb n left h)
   value_taken (one c) e h = some_left ∙ ap (take_meant left at others) e
 
@@ -49,7 +49,7 @@ size-err x (Ok m) e = refused e
 size-err x (Err y) e = cc
 
 -- the delta's places after a value that speaks of the fields behind d, the first of which had x
-pub slot-taken : {R : Type 0} (k : Kind R) (m : Meant) (d : List Change) (x : memory.Change R) → length d + size m ≤ field_limit → x ≡ get_or (map (change_record k) (filled d)) (length d) x → set (map (change_record k) (filled d)) (length d) (slot_after k (Ok m) x) ≡ map (change_record k) (filled (d ++ changes_of m))
+pub slot-taken : {R : Type 0} (k : Kind R) (m : Meant) (d : List Change) (x : memory.Change R) → length d + size m ≤ field_limit → x ≡ get_or (map (change_record k) (filled d)) (length d) x → set (map (change_record k) (filled d)) (length d) (slot_after k (Ok m) x) ≡ map (change_record k) (filled (d ++ meant_changes m))
 slot-taken k (sames n) d x room read =
     let l = length-append d (replicate n same) ∙ ap (λ j. length d + j) (length-replicate n same) in
     let more : field_limit - length d ≡ n + (field_limit - length (d ++ replicate n same)) = omega arith in
@@ -109,15 +109,15 @@ module _ {R : Type 0} (k : Kind R) (fields : ℕ) (list : List ℕ) (delta : Lis
       next-taken x y small fits read after =
           let m = size_ok n (read_value k.allowed v) e in
           let is = m.2 in
-          let long = length-append s.changes (changes_of m.0) in
+          let long = length-append s.changes (meant_changes m.0) in
           let short = length-changes m.0 in
           let count = s.count in
           let left : fields - covered - size m.0 ≡ fields - (covered + n) = omega arith in
           let there : x ≡ get_or (map (change_record k) (filled s.changes)) (length s.changes) x = read ∙ (λ i. get_or (s.holds i) (count i) x) in
           record {
-            changes = s.changes ++ changes_of m.0;
+            changes = s.changes ++ meant_changes m.0;
             count = omega arith;
             within = omega arith;
             holds = (λ i. set (s.holds i) (count i) (after i)) ∙ (λ i. set (map (change_record k) (filled s.changes)) (length s.changes) (slot_after k (m.1 i) x)) ∙ slot-taken k m.0 s.changes x (omega arith) there;
-            result = s.result ∙ ap (ahead s.changes) (value_taken k.allowed at (fields - covered) v vs (omega arith) m.0 m.1 (omega arith)) ∙ ap (λ j. ahead s.changes (ahead (changes_of m.0) (read_values k.allowed (at + length v + 1) j vs))) left ∙ sym (ahead-ahead s.changes (changes_of m.0) (read_values k.allowed (at + length v + 1) (fields - (covered + n)) vs));
+            result = s.result ∙ ap (ahead s.changes) (value_taken k.allowed at (fields - covered) v vs (omega arith) m.0 m.1 (omega arith)) ∙ ap (λ j. ahead s.changes (ahead (meant_changes m.0) (read_values k.allowed (at + length v + 1) j vs))) left ∙ sym (ahead-ahead s.changes (meant_changes m.0) (read_values k.allowed (at + length v + 1) (fields - (covered + n)) vs));
           }

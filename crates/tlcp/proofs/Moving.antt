@@ -3,5 +3,7 @@ use Rattle.std.proofs.Common.{◌≡◌, ℕ, ◌+◌, ◌-◌, ◌^◌, ◌≤�
 use Rattle.row.specs.declared.fault.Refusal.{Refusal}
 use Rattle.row.specs.Faults.{moved, refusal, saturated}
 
-pub saturated-exact : (n : ℕ) (r : Refusal) → n + r.place ≤ 2 ^ 64 - 1 → saturated (moved n r) ≡ moved n r
-saturated-exact n r h = ap (refusal r.fault) (let e : min (n + r.place) (2 ^ 64 - 1) ≡ n + r.place = omega arith in e)
+pub saturated-exact : (n : ℕ) (r : Refusal) → n + r.place ≤ 2 ^ 64 - 1
+    → saturated (moved n r) ≡ moved n r
+saturated-exact n r h =
+    ap (refusal r.fault) (let e : min (n + r.place) (2 ^ 64 - 1) ≡ n + r.place = omega arith in e)

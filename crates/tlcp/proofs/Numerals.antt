@@ -9,7 +9,7 @@ use Rattle.std.proofs.lemmas.Str.Parse.{IsNumeralModel, numerals_by_fold, tells_
 use Rattle.std.proofs.lemmas.Bool.{and_parts, and_from, and_cases, and_right, or_parts, or_from, cases_lt, cases_Bool, leb-true, ltb-false, eqb-true, eqb-false, le-leb, ne_eqb, cond-true, cond-false}
 use Rattle.tlcp.specs.Bytes.{is_digit}
 use Rattle.tlcp.specs.Limits.{code_limit}
-use Rattle.tlcp.specs.Numbers.{digits_from, at_least, leading_zero, number_of, negated, code_of, ReadsDecimal, CodeWithin, ReadsSigned}
+use Rattle.tlcp.specs.Numbers.{digits_from, at_least, leading_zero, read_number, negated, read_code, ReadsDecimal, CodeWithin, ReadsSigned}
 
 -- the number that v and then the digits s write
 abbrev read_on : ℕ → List ℕ → ℕ
@@ -68,7 +68,7 @@ decimal-starts (suc n) h =
     (ne_eqb (length (decimal (suc n))) 0 (λ e. omega (arith, decimal_nonempty (suc n) h)))
     (and_right _ _ (ne_eqb (get_or (decimal (suc n)) 0 0) 48 (λ e. omega (arith, first_decimal (suc n) (omega arith) h))))
 
-decimal-read : (low high n : ℕ) (s : List ℕ) → high < 2 ^ 64 → number_of low high s ≡ Some n → (s ≡ decimal n) × (low ≤ n) × (n ≤ high)
+decimal-read : (low high n : ℕ) (s : List ℕ) → high < 2 ^ 64 → read_number low high s ≡ Some n → (s ≡ decimal n) × (low ≤ n) × (n ≤ high)
 decimal-read low high n s wide e =
     let starts = some-unless (eqb (length s) 0 || leading_zero s) _ n e in
     let sound = or_parts (eqb (length s) 0) (leading_zero s) starts.0 in
@@ -78,7 +78,7 @@ decimal-read low high n s wide e =
     let same = decimal-digits_value own s read.0 some (zero-alone s some sound.1) (omega (arith, read.1, read.2)) in
     (sym same ∙ ap decimal read.1, above.0, read.2)
 
-read-decimal : (low high n : ℕ) → high < 2 ^ 64 → low ≤ n → n ≤ high → number_of low high (decimal n) ≡ Some n
+read-decimal : (low high n : ℕ) → high < 2 ^ 64 → low ≤ n → n ≤ high → read_number low high (decimal n) ≡ Some n
 read-decimal low high n wide above below =
     let small : n < 2 ^ 64 = omega arith in
     let is = digits_value-decimal own n small in
@@ -96,7 +96,7 @@ minus-first : (s : List ℕ) → get_or s 0 0 ≡ 45 → s ≡ 45 ∷ drop 1 s
 minus-first [] e = absurd (omega arith)
 minus-first (b ∷ s) e = ap (λ c. c ∷ s) e
 
-code_read : (z : ℤ) (s : List ℕ) → code_of s ≡ Some z → (s ≡ signed_decimal z) × CodeWithin z
+code_read : (z : ℤ) (s : List ℕ) → read_code s ≡ Some z → (s ≡ signed_decimal z) × CodeWithin z
 code_read z s e = ⊎_elim below above (cases_Bool (eqb (get_or s 0 0) 45))
   where
     Right : ℤ → Type 0
@@ -115,7 +115,7 @@ code_read z s e = ⊎_elim below above (cases_Bool (eqb (get_or s 0 0) 45))
         let read = decimal-read 0 code_limit n s (omega arith) is in
         subst Right same (read.0, read.2)
 
-read-code : (z : ℤ) → CodeWithin z → code_of (signed_decimal z) ≡ Some z
+read-code : (z : ℤ) → CodeWithin z → read_code (signed_decimal z) ≡ Some z
 read-code (pos n) h =
     let small : n < 2 ^ 64 = omega arith in
     let plain = not_in_digits own (decimal n) 45 (digits_decimal own n small) (λ d. omega arith) 0 (decimal_nonempty n small) in

@@ -1,18 +1,20 @@
 -- Lines: the reader of `specs/Lines` against which bytes say which message.
 use Rattle.std.proofs.Common.{◌≡◌, ℕ, suc, ◌+◌, ◌^◌, ◌<◌, ◌≤◌, Bool, true, false, cond, eqb, leb, List, [], ◌∷◌, ◌++◌, length, drop, Some, None, Ok, Err, Option, Result, sym, refl, ap, ◌∙◌, subst, ⊎_elim, arith}
-use Rattle.std.specs.Option.{option_map}
+use Rattle.std.specs.Option.{ok_or, option_map}
 use Rattle.std.specs.List.{AllByRecursion}
 use Rattle.std.proofs.lemmas.List.{length-append, take_at, drop_at, drop-drop}
 use Rattle.std.proofs.lemmas.Bool.{or_parts, or_from, cases_Bool, eqb-true, leb-true, le-leb, le-ltb, lt-ltb, cond-true, cond-false}
-use Rattle.row.specs.declared.fault.Fault.{Fault}
+use Rattle.row.specs.Faults.{refusal}
+use Rattle.row.specs.declared.fault.Fault.TheVariants.{Escape, Number}
 use Rattle.row.specs.declared.fault.Refusal.{Refusal}
 use Rattle.tlcp.specs.Escapes.{decoded, ReadsEscapes}
 use Rattle.tlcp.specs.Limits.{line_limit}
+use Rattle.tlcp.specs.Lists.{ahead}
 use Rattle.tlcp.specs.Parts.{before, behind, place_of, Piece}
-use Rattle.tlcp.specs.Lines.{word, tags, tag_of, Sort, number, code, text, list, sorts, Argument, numbered, coded, worded, listed, Message, piece, front, rest, and_then, ahead, or_fault, sound_or, read_argument, read_arguments, arguments_of, message_of, read_tagged, read_line, Kept, piece_of, has_comma, Laid, none, last, more, Says, ReadsSaid}
+use Rattle.tlcp.specs.Lines.{word, tags, tag_of, Sort, number, code, text, list, sorts, Argument, numbered, coded, worded, listed, Message, piece, front, rest, and_then, sound_or, unsound, read_argument, read_arguments, arguments_of, message_of, read_tagged, read_line, OfSort, piece_of, has_comma, Laid, none, last, more, Says, ReadsSaid}
 use Rattle.tlcp.specs.declared.tag.Tag.{Tag}
 use Rattle.tlcp.specs.declared.tag.Tag.TheVariants.{U, Probe, Sync, Loop, Cons, Servname, Clientip, Reqok, Unsub, Conerr, End, Error, Eos, Subok, Ov, Conf, Reqerr, Conok}
-use Rattle.tlcp.proofs.Reading.{refused}
+use Rattle.tlcp.proofs.Reading.{ahead-ok, refused}
 use Rattle.tlcp.proofs.Words.{first_word}
 use Rattle.tlcp.proofs.Numerals.{reads-decimal, reads-signed}
 
@@ -91,42 +93,42 @@ known Reqerr = (refl, refl, omega arith)
 known Conok = (refl, refl, omega arith)
 
 -- a sort reads a part, or refuses it
-some-from : {X : Type 0} (f : Fault) (at : ℕ) (arg : X → Argument) (o : Option X) (a : Argument) → or_fault f at arg o ≡ Ok a → (x : X) × (o ≡ Some x) × (arg x ≡ a)
-some-from f at arg None a e = refused e
-some-from f at arg (Some x) a e = (x, refl, cc)
+some-from : {X : Type 0} (arg : X → Argument) (o : Option X) (r : Refusal) (a : Argument) → ok_or (option_map arg o) r ≡ Ok a → (x : X) × (o ≡ Some x) × (arg x ≡ a)
+some-from arg None r a e = refused e
+some-from arg (Some x) r a e = (x, refl, cc)
 
-sound-from : (p : Piece) (o : Option ℕ) (a : Argument) → sound_or p o ≡ Ok a → (o ≡ None) × (worded p ≡ a)
-sound-from p None a e = (refl, cc)
-sound-from p (Some n) a e = refused e
+sound-from : (p : Piece) (o : Option ℕ) (r : Refusal) (a : Argument) → ok_or (sound_or p o) r ≡ Ok a → (o ≡ None) × (worded p ≡ a)
+sound-from p None r a e = (refl, cc)
+sound-from p (Some n) r a e = refused e
 
 piece-read : (k : Sort) (p : Piece) (a : Argument) → read_argument k p ≡ Ok a → piece_of a ≡ p
-piece-read (number low high) p a e = let (n, is, same) = some-from _ _ _ _ a e in ap piece_of (sym same)
-piece-read code p a e = let (z, is, same) = some-from _ _ _ _ a e in ap piece_of (sym same)
-piece-read text p a e = ap piece_of (sym (sound-from p _ a e).1)
+piece-read (number low high) p a e = let (n, is, same) = some-from _ _ _ a e in ap piece_of (sym same)
+piece-read code p a e = let (z, is, same) = some-from _ _ _ a e in ap piece_of (sym same)
+piece-read text p a e = ap piece_of (sym (sound-from p _ _ a e).1)
 piece-read list p a e = let same : listed p ≡ a = cc in ap piece_of (sym same)
 
 module _ (escapes : ReadsEscapes) where
-  argument-read : (k : Sort) → Bounded k → (p : Piece) (a : Argument) → read_argument k p ≡ Ok a → Kept k a
-  argument-read (number low high) bound p a e = let (n, is, same) = some-from _ _ _ _ a e in subst (Kept (number low high)) same ((reads-decimal low high n p.text bound).0 is)
-  argument-read code bound p a e = let (z, is, same) = some-from _ _ _ _ a e in subst (Kept code) same ((reads-signed z p.text).0 is)
+  argument-read : (k : Sort) → Bounded k → (p : Piece) (a : Argument) → read_argument k p ≡ Ok a → OfSort k a
+  argument-read (number low high) bound p a e = let (n, is, same) = some-from _ _ _ a e in subst (OfSort (number low high)) same ((reads-decimal low high n p.text bound).0 is)
+  argument-read code bound p a e = let (z, is, same) = some-from _ _ _ a e in subst (OfSort code) same ((reads-signed z p.text).0 is)
   argument-read text bound p a e =
-      let (sound, same) = sound-from p _ a e in
+      let (sound, same) = sound-from p _ _ a e in
       let whole = (decoded p.text).bytes in
-      subst (Kept text) same (whole, (escapes p.text whole).0 (λ i. record { bytes = whole; fault = sound i }))
-  argument-read list bound p a e = let same : listed p ≡ a = cc in subst (Kept list) same tt
+      subst (OfSort text) same (whole, (escapes p.text whole).0 (λ i. record { bytes = whole; fault = sound i }))
+  argument-read list bound p a e = let same : listed p ≡ a = cc in subst (OfSort list) same tt
 
-  read-argument : (k : Sort) → Bounded k → (a : Argument) → Kept k a → read_argument k (piece_of a) ≡ Ok a
-  read-argument (number low high) bound (numbered p n) (is, above, below) = ap (or_fault _ _ _) ((reads-decimal low high n p.text bound).1 is above below)
+  read-argument : (k : Sort) → Bounded k → (a : Argument) → OfSort k a → read_argument k (piece_of a) ≡ Ok a
+  read-argument (number low high) bound (numbered p n) (is, above, below) = ap (λ o. ok_or (option_map (numbered p) o) (refusal Number p.at)) ((reads-decimal low high n p.text bound).1 is above below)
   read-argument (number low high) bound (coded p z) kept = absurd kept
   read-argument (number low high) bound (worded p) kept = absurd kept
   read-argument (number low high) bound (listed p) kept = absurd kept
   read-argument code bound (numbered p n) kept = absurd kept
-  read-argument code bound (coded p z) (is, within) = ap (or_fault _ _ _) ((reads-signed z p.text).1 is within)
+  read-argument code bound (coded p z) (is, within) = ap (λ o. ok_or (option_map (coded p) o) (refusal Number p.at)) ((reads-signed z p.text).1 is within)
   read-argument code bound (worded p) kept = absurd kept
   read-argument code bound (listed p) kept = absurd kept
   read-argument text bound (numbered p n) kept = absurd kept
   read-argument text bound (coded p z) kept = absurd kept
-  read-argument text bound (worded p) (t, decodes) = ap (λ d. sound_or p d.fault) ((escapes p.text t).1 decodes)
+  read-argument text bound (worded p) (t, decodes) = ap (λ d. ok_or (sound_or p d.fault) (refusal Escape (unsound p))) ((escapes p.text t).1 decodes)
   read-argument text bound (listed p) kept = absurd kept
   read-argument list bound (numbered p n) kept = absurd kept
   read-argument list bound (coded p z) kept = absurd kept
@@ -138,24 +140,22 @@ then_ok : {X Y : Type 0} (r : Result X Refusal) (f : X → Result Y Refusal) (y 
 then_ok (Ok x) f y e = (x, refl, e)
 then_ok (Err r) f y e = refused e
 
-ahead-ok : {X : Type 0} (x : X) (r : Result (List X) Refusal) (ys : List X) → ahead x r ≡ Ok ys → (xs : List X) × (r ≡ Ok xs) × (x ∷ xs ≡ ys)
-ahead-ok x (Ok xs) ys e = (xs, refl, cc)
-ahead-ok x (Err r) ys e = refused e
-
 -- the first of several arguments is read by itself, and the others from the rest
 module _ (k j : Sort) (ks : List Sort) (end : ℕ) (p : Piece) where
   more-read : (args : List Argument) → arguments_of (k ∷ j ∷ ks) end (Some p) ≡ Ok args → (a : Argument) × (others : List Argument) × (read_argument k (front p) ≡ Ok a) × (arguments_of (j ∷ ks) end (rest p) ≡ Ok others) × (a ∷ others ≡ args)
   more-read args e =
       let (all, cut, read) = then_ok _ (read_arguments (k ∷ j ∷ ks)) args e in
-      let (ps, cut-rest, whole) = ahead-ok (front p) _ all cut in
+      let (ps, cut-rest, whole) = ahead-ok (front p ∷ []) all _ cut in
       let (a, first, behind) = then_ok (read_argument k (front p)) _ args (ap (read_arguments (k ∷ j ∷ ks)) whole ∙ read) in
-      let (others, read-rest, same) = ahead-ok a _ args behind in
+      let (others, read-rest, same) = ahead-ok (a ∷ []) args _ behind in
       (a, others, first, ap (λ r. and_then r (read_arguments (j ∷ ks))) cut-rest ∙ read-rest, same)
 
   read_more : (a : Argument) (others : List Argument) → read_argument k (front p) ≡ Ok a → arguments_of (j ∷ ks) end (rest p) ≡ Ok others → arguments_of (k ∷ j ∷ ks) end (Some p) ≡ Ok (a ∷ others)
   read_more a others first e =
       let (ps, cut, read) = then_ok _ (read_arguments (j ∷ ks)) others e in
-      ap (λ r. and_then (ahead (front p) r) (read_arguments (k ∷ j ∷ ks))) cut ∙ ap (λ r. and_then r (λ b. ahead b (read_arguments (j ∷ ks) ps))) first ∙ ap (ahead a) read
+      ap (λ r. and_then (ahead (front p ∷ []) r) (read_arguments (k ∷ j ∷ ks))) cut
+      ∙ ap (λ r. and_then r (λ b. ahead (b ∷ []) (read_arguments (j ∷ ks) ps))) first
+      ∙ ap (ahead (a ∷ [])) read
 
 -- R holds of all that is read, if it holds at no argument, at one, and at one before others
 module _ (R : List Sort → ℕ → List Argument → List ℕ → Type 0)
@@ -197,7 +197,7 @@ module _ (escapes : ReadsEscapes) where
   read-laid : {ks : List Sort} {at : ℕ} {args : List Argument} {s : List ℕ} → Laid ks at args s → AllByRecursion Bounded ks → (end : ℕ) → (o : Option (List ℕ)) × (s ≡ tail_of o) × (arguments_of ks end (here at o) ≡ Ok args)
   read-laid none bound end = (None, refl, refl)
   read-laid (last {k = k} {at = at} {a = a} kept is) bound end =
-      (Some (piece_of a).text, refl, ap (λ r. and_then r (λ b. ahead b (Ok []))) (ap (λ n. read_argument k (piece (piece_of a).text n)) (sym is) ∙ read-argument escapes k bound.0 a kept))
+      (Some (piece_of a).text, refl, ap (λ r. and_then r (λ b. ahead (b ∷ []) (Ok []))) (ap (λ n. read_argument k (piece (piece_of a).text n)) (sym is) ∙ read-argument escapes k bound.0 a kept))
   read-laid (more {k = k} {j = j} {ks = ks} {at = at} {a = a} {others = others} {s = s} kept is plain laid) bound end =
       let (o, same, read) = read-laid laid bound.1 end in
       let x = (piece_of a).text in

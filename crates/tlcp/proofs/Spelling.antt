@@ -6,37 +6,31 @@ use Rattle.row.specs.Limits.{field_limit}
 use Rattle.row.specs.Rows.{Change, same, becomes, null, value}
 use Rattle.row.specs.declared.fault.Refusal.{Refusal}
 use Rattle.tlcp.specs.Escapes.{decoded}
-use Rattle.tlcp.specs.Lists.{values, Meant, sames, one, is_nil, read_text, text_or, caret_or, read_value, take_meant, ahead, read_values, Means, unchanged, run, nothing, empty, content, Row, done, next, ReadsSpelled}
-use Rattle.tlcp.specs.Numbers.{number_of}
+use Rattle.tlcp.specs.Lists.{values, Meant, sames, one, read_text, text_or, caret_or, read_value, take_meant, ahead, read_values, Means, unchanged, run, nothing, empty, content, Row, done, next, ReadsLists}
+use Rattle.tlcp.specs.Parts.{is_nil}
+use Rattle.tlcp.specs.Numbers.{read_number}
 use Rattle.tlcp.proofs.Dividing.{divided-joined, divided-some, divided-apart, joined-divided}
 use Rattle.tlcp.proofs.Numerals.{reads-decimal}
-use Rattle.tlcp.proofs.Reading.{refused}
+use Rattle.tlcp.proofs.Reading.{ahead-ok, refused, same-from-ok}
 use Rattle.tlcp.proofs.Unescaped.{reads-escapes}
 
-same-from-ok : {X : Type 0} {x y : X} → ◌≡◌ {A = Result X Refusal} (Ok x) (Ok y) → x ≡ y
-same-from-ok e = cc
-
-ahead-ok : (d e : List Change) (r : Result (List Change) Refusal) → ahead d r ≡ Ok e → (f : List Change) × (r ≡ Ok f) × (d ++ f ≡ e)
-ahead-ok d e (Ok f) is = (f, refl, same-from-ok is)
-ahead-ok d e (Err r) is = refused is
-
 -- the changes that a value means
-abbrev pub changes_of : Meant → List Change
-changes_of (sames n) = replicate n same
-changes_of (one c) = c ∷ []
+abbrev pub meant_changes : Meant → List Change
+meant_changes (sames n) = replicate n same
+meant_changes (one c) = c ∷ []
 
 module _ (allowed : List ℕ → Bool) where
   -- a value that is read as m means what m says
   abbrev Faithful : List ℕ → Result Meant Refusal → Type 0
-  Faithful v r = (m : Meant) → r ≡ Ok m → Means allowed v (changes_of m)
+  Faithful v r = (m : Meant) → r ≡ Ok m → Means allowed v (meant_changes m)
 
-  faithful-ok : {v : List ℕ} {m : Meant} → Means allowed v (changes_of m) → Faithful v (Ok m)
-  faithful-ok {v} h n e = subst (λ k. Means allowed v (changes_of k)) (same-from-ok e) h
+  faithful-ok : {v : List ℕ} {m : Meant} → Means allowed v (meant_changes m) → Faithful v (Ok m)
+  faithful-ok {v} h n e = subst (λ k. Means allowed v (meant_changes k)) (same-from-ok e) h
 
   faithful-text : {v t : List ℕ} → (allowed t ≡ true → Means allowed v (becomes (value t) ∷ [])) → Faithful v (read_text allowed t)
   faithful-text {v} {t} h = cond_both (allowed t) _ _ (Faithful v) (λ e. faithful-ok (h e)) (λ _ _ e. refused e)
 
-  faithful-caret : (v : List ℕ) (o : Option ℕ) → number_of 1 field_limit v ≡ o → Faithful (94 ∷ v) (caret_or o)
+  faithful-caret : (v : List ℕ) (o : Option ℕ) → read_number 1 field_limit v ≡ o → Faithful (94 ∷ v) (caret_or o)
   faithful-caret v None is = λ _ e. refused e
   faithful-caret v (Some n) is =
       let h = (reads-decimal 1 field_limit n v (lit< tt)).0 is in
@@ -58,7 +52,7 @@ module _ (allowed : List ℕ → Bool) where
   faithful [] = faithful-ok unchanged
   faithful (b ∷ v) =
       cond_both (eqb b 94) _ _ (Faithful (b ∷ v))
-      (λ is. rw (eqb-true b 94 is) (faithful-caret v (number_of 1 field_limit v) refl))
+      (λ is. rw (eqb-true b 94 is) (faithful-caret v (read_number 1 field_limit v) refl))
       (λ caret.
       cond_both (eqb b 35 && is_nil v) _ _ (Faithful (b ∷ v))
       (λ is. faithful-ok (alone is nothing))
@@ -68,7 +62,7 @@ module _ (allowed : List ℕ → Bool) where
       (λ dollar. faithful-content caret hash dollar (decoded (b ∷ v)).fault refl)))
 
   -- a value that means d is read as something that says d
-  read : {v : List ℕ} {d : List Change} → Means allowed v d → (m : Meant) × (read_value allowed v ≡ Ok m) × (changes_of m ≡ d)
+  read : {v : List ℕ} {d : List Change} → Means allowed v d → (m : Meant) × (read_value allowed v ≡ Ok m) × (meant_changes m ≡ d)
   read unchanged = (sames 1, refl, refl)
   read (run {n = n} low high) = (sames n, ap caret_or ((reads-decimal 1 field_limit n (decimal n) (lit< tt)).1 refl low high), refl)
   read nothing = (one (becomes null), refl, refl)
@@ -117,7 +111,7 @@ module _ (allowed : List ℕ → Bool) where
       (λ some. covers-taken left at rest (read_value allowed v) some (faithful v) (covers vs (at + length v + 1)))
 
   -- the changes of m and then e are as many as were to be covered
-  takes : (m : Meant) (e : List Change) (at left : ℕ) (rest : ℕ → Result (List Change) Refusal) → left ≡ length (changes_of m ++ e) → rest (length e) ≡ Ok e → take_meant left at rest (Ok m) ≡ Ok (changes_of m ++ e)
+  takes : (m : Meant) (e : List Change) (at left : ℕ) (rest : ℕ → Result (List Change) Refusal) → left ≡ length (meant_changes m ++ e) → rest (length e) ≡ Ok e → take_meant left at rest (Ok m) ≡ Ok (meant_changes m ++ e)
   takes (sames n) e at left rest size is =
       let long = length-append (replicate n same) e in
       let run_long = length-replicate n same in
@@ -145,7 +139,7 @@ module _ (allowed : List ℕ → Bool) where
       ∙ takes m.0 e at (length (d ++ e)) rest (ap (λ c. length (c ++ e)) (sym m.2)) (reads-row r (at + length v + 1))
       ∙ ap (λ c. Ok (c ++ e)) m.2
 
-pub reads-spelled : ReadsSpelled
+pub reads-spelled : ReadsLists
 reads-spelled allowed fields s d few =
     let small = le-leb fields field_limit few in (
       λ is.

@@ -1,5 +1,6 @@
 -- Bytes up to a limit, and bytes appended to them where there is room.
-use Rattle.std.specs.Prelude.{◌≡◌, ℕ, ◌+◌, Bool, cond, List, ◌++◌, length, take, Some, None, Ok, Err, Option, Result, ◌==◌, nat_le}
+use Rattle.std.specs.Prelude.{◌≡◌, ℕ, ◌+◌, Bool, cond, List, ◌++◌, length, take, Some, None, Ok}
+use Rattle.std.specs.Prelude.{Err, Option, Result, ◌==◌, nat_le}
 use Rattle.row.specs.Kinds.{Kind}
 use Rattle.row.specs.Limits.{field_limit}
 use Rattle.row.specs.Records.{memory_refusal}
@@ -12,8 +13,8 @@ use Rattle.tlcp.specs.Lists.{uncovered, written_list}
 use Rattle.tlcp.specs.Written.{changes_of, covers, no_room}
 use Rattle.tlcp.specs.declared.bounded.Bounded.{Bounded}
 
-abbrev pub text_of : {N : ℕ} → Bounded N → List ℕ
-text_of b = take b.len b.bytes
+abbrev pub bounded_text : {N : ℕ} → Bounded N → List ℕ
+bounded_text b = take b.len b.bytes
 
 abbrev pub has_room : ℕ → List ℕ → List ℕ → Bool
 has_room limit s t = nat_le (length s + length t) limit
@@ -43,7 +44,8 @@ module _ {R : Type 0} (k : Kind R) where
   abbrev pub list_room_answer : ℕ → List ℕ → List (Change R) → ℕ → Result (Unit {0}) Refusal
   list_room_answer limit s delta fields =
       let answer = room_answer limit s (written_list (changes_of k delta fields)) in
-      cond (length delta == field_limit) (cond (covers fields) answer (Err uncovered)) (Err memory_refusal)
+      cond (length delta == field_limit) (cond (covers fields) answer (Err uncovered))
+      (Err memory_refusal)
 
   abbrev pub list_extended : ℕ → List ℕ → List (Change R) → ℕ → List ℕ
   list_extended limit s delta fields =

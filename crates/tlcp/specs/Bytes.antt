@@ -1,7 +1,8 @@
 -- The classes of bytes.
 use Rattle.std.specs.Prelude.{ℕ, Bool, not, ◌&&◌, ◌||◌, ◌==◌, nat_le}
 use Rattle.tlcp.specs.declared.class.Class.{Class}
-use Rattle.tlcp.specs.declared.class.Class.TheVariants.{Digit, Hex, Escaped, EscapedFirst, Reserved, Alphanumeric, Plain}
+use Rattle.tlcp.specs.declared.class.Class.TheVariants.{Digit, Hex, Escaped, EscapedFirst, Reserved}
+use Rattle.tlcp.specs.declared.class.Class.TheVariants.{Alphanumeric, Plain}
 
 -- the bit of a class in the table's entries
 abbrev pub bit_of : Class → ℕ

@@ -1,13 +1,18 @@
 -- Escapes: `%` and two hexadecimal digits stand for one byte.
-use Rattle.std.specs.Prelude.{◌≡◌, ℕ, ◌+◌, ◌-◌, ◌*◌, ◌/◌, ◌%◌, Bool, true, false, cond, ◌&&◌, List, [], ◌∷◌, ◌++◌, length, take, drop, Some, None, Ok, Err, Option, Result, ◌==◌, nat_le, slice_index}
+use Rattle.std.specs.Prelude.{◌≡◌, ℕ, ◌+◌, ◌-◌, ◌*◌, ◌/◌, ◌%◌, Bool, true, false, cond, ◌&&◌, List}
+use Rattle.std.specs.Prelude.{[], ◌∷◌, ◌++◌, length, take, drop, Some, None, Ok, Err, Option}
+use Rattle.std.specs.Prelude.{Result, ◌==◌, nat_le, slice_index}
 use Rattle.row.specs.declared.fault.Fault.TheVariants.{Escape}
 use Rattle.row.specs.declared.fault.Refusal.{Refusal}
+use Rattle.row.specs.Faults.{refusal}
+use Rattle.tlcp.specs.Parts.{is_nil}
 use Rattle.tlcp.specs.Bytes.{is_digit, is_hex, is_escaped, is_escaped_first}
 
 abbrev pub hex_value : ℕ → ℕ
 hex_value b = cond (is_digit b) (b - 48) (cond (nat_le b 70) (b - 55) (b - 87))
 
--- the bytes up to the end or the first fault, and the place of that fault, a `%` without two hexadecimal digits
+-- the bytes up to the end or the first fault, and the place of that fault, a `%` without two
+-- hexadecimal digits
 pub record Decoded : Type 0 where
   pub bytes : List ℕ
   pub fault : Option ℕ
@@ -21,7 +26,8 @@ stopped at = record { bytes = []; fault = Some at }
 abbrev pub decode_at : ℕ → List ℕ → Decoded
 decode_at at [] = record { bytes = []; fault = None }
 decode_at at (b ∷ []) = cond (b == 37) (stopped at) (record { bytes = b ∷ []; fault = None })
-decode_at at (b ∷ h ∷ []) = let plain = onto (b ∷ []) (decode_at (at + 1) (h ∷ [])) in cond (b == 37) (stopped at) plain
+decode_at at (b ∷ h ∷ []) =
+    let plain = onto (b ∷ []) (decode_at (at + 1) (h ∷ [])) in cond (b == 37) (stopped at) plain
 decode_at at (b ∷ h ∷ l ∷ s) =
     let plain = onto (b ∷ []) (decode_at (at + 1) (h ∷ l ∷ s)) in
     let escape = onto ((16 * hex_value h + hex_value l) ∷ []) (decode_at (at + 3) s) in
@@ -34,15 +40,16 @@ decoded s = decode_at 0 s
 -- the byte that the front of s stands for, and what is left behind it
 abbrev pub unit_of : List ℕ → Option (ℕ × List ℕ)
 unit_of s =
-    cond (length s == 0) None
+    cond (is_nil s) None
     (cond (slice_index s 0 == 37)
-    (cond (nat_le 3 (length s) && (is_hex (slice_index s 1) && is_hex (slice_index s 2))) (Some (16 * hex_value (slice_index s 1) + hex_value (slice_index s 2), drop 3 s)) None)
+    (cond (nat_le 3 (length s) && (is_hex (slice_index s 1) && is_hex (slice_index s 2)))
+    (Some (16 * hex_value (slice_index s 1) + hex_value (slice_index s 2), drop 3 s)) None)
     (Some (slice_index s 0, drop 1 s)))
 
 -- how many bytes there are, or the place of the fault
 abbrev pub count_or : ℕ → Option ℕ → Result ℕ Refusal
 count_or n None = Ok n
-count_or n (Some at) = Err (record { fault = Escape; place = at })
+count_or n (Some at) = Err (refusal Escape at)
 
 abbrev pub decode_answer : Decoded → Result ℕ Refusal
 decode_answer d = count_or (length d.bytes) d.fault
@@ -55,7 +62,8 @@ overlaid t xs = take (length xs) t ++ drop (length t) xs
 pub data Decodes : List ℕ → List ℕ → Type 0 where
   nothing : Decodes [] []
   plain : {b : ℕ} {s t : List ℕ} → (b == 37) ≡ false → Decodes s t → Decodes (b ∷ s) (b ∷ t)
-  escape : {h l : ℕ} {s t : List ℕ} → is_hex h ≡ true → is_hex l ≡ true → Decodes s t → Decodes (37 ∷ h ∷ l ∷ s) ((16 * hex_value h + hex_value l) ∷ t)
+  escape : {h l : ℕ} {s t : List ℕ} → is_hex h ≡ true → is_hex l ≡ true → Decodes s t
+      → Decodes (37 ∷ h ∷ l ∷ s) ((16 * hex_value h + hex_value l) ∷ t)
 
 -- decoding comes to the end exactly where s is t with some bytes escaped
 abbrev pub ReadsEscapes : Type 0

@@ -1,4 +1,5 @@
--- What reading a list leaves in memory: the delta's changes, as records of a kind of value, in all the places of a row.
+-- What reading a list leaves in memory: the delta's changes, as records of a kind of value, in all
+-- the places of a row.
 use Rattle.std.specs.Prelude.{ℕ, ◌-◌, List, [], ◌++◌, map, length, replicate, Ok, Err, Result}
 use Rattle.row.specs.Kinds.{Kind}
 use Rattle.row.specs.Limits.{field_limit}

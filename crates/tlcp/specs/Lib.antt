@@ -7,6 +7,8 @@ pub mod Lists
 pub mod Lines
 pub mod Held
 pub mod Examples
+pub mod Refused
+pub mod Tables
 pub mod Written
 pub mod Said
 pub mod Dividing

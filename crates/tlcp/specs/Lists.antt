@@ -1,5 +1,7 @@
 -- Value lists: what a list of values says of a row, and how a delta is written as one.
-use Rattle.std.specs.Prelude.{◌≡◌, ℕ, suc, ◌+◌, ◌-◌, ◌*◌, ◌<◌, ◌≤◌, Bool, true, false, cond, ◌&&◌, List, [], ◌∷◌, ◌++◌, length, replicate, Some, None, Ok, Err, decimal, Option, Result, ◌==◌, nat_le}
+use Rattle.std.specs.Prelude.{◌≡◌, ℕ, suc, ◌+◌, ◌-◌, ◌*◌, ◌<◌, ◌≤◌, Bool, true, false, cond, ◌&&◌}
+use Rattle.std.specs.Prelude.{List, [], ◌∷◌, ◌++◌, length, replicate, Some, None, Ok, Err, decimal}
+use Rattle.std.specs.Prelude.{Option, Result, ◌==◌, nat_le}
 use Rattle.std.specs.List.{AllByRecursion}
 use Rattle.row.specs.Limits.{field_limit, text_limit}
 use Rattle.row.specs.Rows.{Change, same, becomes, null, value}
@@ -7,8 +9,8 @@ use Rattle.row.specs.Faults.{moved, refusal}
 use Rattle.row.specs.declared.fault.Fault.TheVariants.{Escape, Number, Cover, Value}
 use Rattle.row.specs.declared.fault.Refusal.{Refusal}
 use Rattle.tlcp.specs.Escapes.{decoded, Decodes, encode}
-use Rattle.tlcp.specs.Numbers.{number_of}
-use Rattle.tlcp.specs.Parts.{divided_by, each_behind, has, joined_by, NoneHas}
+use Rattle.tlcp.specs.Numbers.{read_number}
+use Rattle.tlcp.specs.Parts.{divided_by, each_behind, has, is_nil, joined_by, NoneHas}
 
 -- the values of a list: what stands between its pipes
 abbrev pub values : List ℕ → List (List ℕ)
@@ -33,31 +35,32 @@ abbrev pub caret_or : Option ℕ → Result Meant Refusal
 caret_or None = Err (refusal Number 0)
 caret_or (Some n) = Ok (sames n)
 
-abbrev pub is_nil : List ℕ → Bool
-is_nil v = length v == 0
-
 -- one value, with places counted from its first byte
 abbrev pub read_value : (List ℕ → Bool) → List ℕ → Result Meant Refusal
 read_value allowed [] = Ok (sames 1)
 read_value allowed (b ∷ v) =
-    let caret = caret_or (number_of 1 field_limit v) in
+    let caret = caret_or (read_number 1 field_limit v) in
     let content = read_content allowed (b ∷ v) in
     let dollar = cond (b == 36 && is_nil v) (read_text allowed []) content in
     let hash = cond (b == 35 && is_nil v) (Ok (one (becomes null))) dollar in
     cond (b == 94) caret hash
 
 -- d and then the rest, unless the rest is refused
-abbrev pub ahead : List Change → Result (List Change) Refusal → Result (List Change) Refusal
+abbrev pub ahead : {X : Type 0} → List X → Result (List X) Refusal → Result (List X) Refusal
 ahead d (Ok e) = Ok (d ++ e)
 ahead d (Err r) = Err r
 
 abbrev pub uncovered : Refusal
 uncovered = refusal Cover 0
 
--- how a value goes on: `left` fields were to be covered, and `rest n` says what the values behind it make of n fields
-abbrev pub take_meant : ℕ → ℕ → (ℕ → Result (List Change) Refusal) → Result Meant Refusal → Result (List Change) Refusal
+-- how a value goes on: `left` fields were to be covered, and `rest n` says what the values behind
+-- it make of n fields
+abbrev pub take_meant : ℕ → ℕ → (ℕ → Result (List Change) Refusal) → Result Meant Refusal
+    → Result (List Change) Refusal
 take_meant left at rest (Err r) = Err (moved at r)
-take_meant left at rest (Ok (sames n)) = let more = ahead (replicate n same) (rest (left - n)) in cond (nat_le n left) more (Err uncovered)
+take_meant left at rest (Ok (sames n)) =
+    let more = ahead (replicate n same) (rest (left - n)) in
+    cond (nat_le n left) more (Err uncovered)
 take_meant left at rest (Ok (one c)) = ahead (c ∷ []) (rest (left - 1))
 
 -- what the values say of the fields that are left; the first value begins at the offset `at`
@@ -85,12 +88,15 @@ pub data Means (allowed : List ℕ → Bool) : List ℕ → List Change → Type
   -- `$` alone
   empty : allowed [] ≡ true → Means allowed (36 ∷ []) (becomes (value []) ∷ [])
   -- any other value that does not begin with a caret
-  content : {b : ℕ} {v t : List ℕ} → (b == 94) ≡ false → (b == 35 && is_nil v) ≡ false → (b == 36 && is_nil v) ≡ false → Decodes (b ∷ v) t → allowed t ≡ true → Means allowed (b ∷ v) (becomes (value t) ∷ [])
+  content : {b : ℕ} {v t : List ℕ} → (b == 94) ≡ false → (b == 35 && is_nil v) ≡ false
+      → (b == 36 && is_nil v) ≡ false → Decodes (b ∷ v) t → allowed t ≡ true
+      → Means allowed (b ∷ v) (becomes (value t) ∷ [])
 
 -- values side by side
 pub data Row (allowed : List ℕ → Bool) : List (List ℕ) → List Change → Type 0 where
   done : Row allowed [] []
-  next : {v : List ℕ} {vs : List (List ℕ)} {d e : List Change} → Means allowed v d → Row allowed vs e → Row allowed (v ∷ vs) (d ++ e)
+  next : {v : List ℕ} {vs : List (List ℕ)} {d e : List Change} → Means allowed v d
+      → Row allowed vs e → Row allowed (v ∷ vs) (d ++ e)
 
 -- values with a pipe before each
 abbrev pub each_piped : List (List ℕ) → List ℕ
@@ -106,7 +112,8 @@ has_pipe = has 124
 abbrev pub NoPipes : List (List ℕ) → Type 0
 NoPipes = NoneHas 124
 
--- a list spells a delta: it is values without pipes, divided by pipes, at least one, that mean the delta
+-- a list spells a delta: it is values without pipes, divided by pipes, at least one, that mean the
+-- delta
 pub record Spells (allowed : List ℕ → Bool) (s : List ℕ) (d : List Change) : Type 0 where
   pub parts : List (List ℕ)
   pub some : 1 ≤ length parts
@@ -114,9 +121,10 @@ pub record Spells (allowed : List ℕ → Bool) (s : List ℕ) (d : List Change)
   pub whole : s ≡ piped parts
   pub means : Row allowed parts d
 
--- the reader accepts exactly the lists that spell a delta of the row's fields, and takes each for that delta
-abbrev pub ReadsSpelled : Type 0
-ReadsSpelled =
+-- the reader accepts exactly the lists that spell a delta of the row's fields, and takes each for
+-- that delta
+abbrev pub ReadsLists : Type 0
+ReadsLists =
     (allowed : List ℕ → Bool) (fields : ℕ) (s : List ℕ) (d : List Change) → fields ≤ field_limit
     → (read_list allowed fields s ≡ Ok d → Spells allowed s d × (length d ≡ fields))
     × (Spells allowed s d → length d ≡ fields → read_list allowed fields s ≡ Ok d)

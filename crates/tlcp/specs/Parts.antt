@@ -1,6 +1,21 @@
--- Where a byte stands in a text, and what stands before, behind and between.
-use Rattle.std.specs.Prelude.{◌≡◌, ℕ, suc, ◌+◌, Bool, false, cond, ◌||◌, List, [], ◌∷◌, length, take, drop, Some, None, Option, ◌==◌, nat_lt}
+-- Texts, byte by byte: which word a text is, where a byte stands in it, and what stands before,
+-- behind and between.
+use Rattle.std.specs.Prelude.{◌≡◌, ℕ, suc, ◌+◌, Bool, true, false, cond, ◌&&◌, ◌||◌, List, [], ◌∷◌}
+use Rattle.std.specs.Prelude.{length, take, drop, find, Some, None, Option, ◌==◌, nat_lt}
 use Rattle.std.specs.List.{flat_map}
+
+abbrev pub is_nil : List ℕ → Bool
+is_nil s = length s == 0
+
+abbrev pub same_bytes : List ℕ → List ℕ → Bool
+same_bytes [] [] = true
+same_bytes [] (y ∷ ys) = false
+same_bytes (x ∷ xs) [] = false
+same_bytes (x ∷ xs) (y ∷ ys) = x == y && same_bytes xs ys
+
+-- the first of some things whose word a text is
+abbrev pub first_with : {X : Type 0} → (X → List ℕ) → List X → List ℕ → Option X
+first_with word xs s = find (λ x. same_bytes s (word x)) xs
 
 -- the place of the first b, or the length where there is none
 abbrev pub place_of : ℕ → List ℕ → ℕ

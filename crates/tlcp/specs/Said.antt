@@ -1,9 +1,10 @@
 -- What the reader's answers say.
-use Rattle.std.specs.Prelude.{◌≡◌, ℕ, ℤ, List, [], ◌∷◌, Ok, Err, Option, Result}
+use Rattle.std.specs.Prelude.{◌≡◌, ℕ, ℤ, List, [], ◌∷◌, Option, Result}
 use Rattle.std.specs.Option.{option_map}
 use Rattle.std.specs.Result.{result_map_both}
 use Rattle.row.specs.declared.fault.Refusal.{Refusal}
-use Rattle.tlcp.specs.Lines.{Argument, numbered, coded, worded, listed, Message, arguments_of, message_of, piece, sorts}
+use Rattle.tlcp.specs.Lines.{Argument, numbered, coded, worded, listed, Message, arguments_of}
+use Rattle.tlcp.specs.Lines.{message_of, piece, sorts}
 use Rattle.tlcp.specs.Limits.{line_limit}
 use Rattle.tlcp.specs.Parts.{Piece}
 use Rattle.tlcp.specs.declared.argument.Valued.{Valued}
@@ -70,7 +71,8 @@ arguments_in (n.Subok id items fields) = numbering id ∷ numbering items ∷ nu
 arguments_in (n.Ov id item lost) = numbering id ∷ numbering item ∷ numbering lost ∷ []
 arguments_in (n.Conf id frequency filter) = numbering id ∷ wording frequency ∷ wording filter ∷ []
 arguments_in (n.Reqerr request c p) = wording request ∷ coding c ∷ wording p ∷ []
-arguments_in (n.Conok session limit keepalive link) = wording session ∷ numbering limit ∷ numbering keepalive ∷ wording link ∷ []
+arguments_in (n.Conok session limit keepalive link) =
+    wording session ∷ numbering limit ∷ numbering keepalive ∷ wording link ∷ []
 
 abbrev pub message_in : Piece → Notification → Message
 message_in name n = record { tag = tag_in n; name = name; args = arguments_in n }
@@ -80,4 +82,7 @@ said r = result_map_both (λ l. message_in (piece_in l.tag) l.says) (λ e. e) r
 
 -- r says what a line of `end` bytes with the tag t says, behind whose tag `tail` stands
 abbrev pub Tells : Tag → ℕ → Option Part → Result Notification Refusal → Type 0
-Tells t end tail r = (name : Piece) → result_map_both (message_in name) (λ e. e) r ≡ message_of t name (arguments_of (sorts t) end (option_map piece_in tail))
+Tells t end tail r =
+    (name : Piece)
+    → result_map_both (message_in name) (λ e. e) r
+    ≡ message_of t name (arguments_of (sorts t) end (option_map piece_in tail))

@@ -1,5 +1,6 @@
 -- What a writer leaves in lent memory, and what it answers.
-use Rattle.std.specs.Prelude.{◌≡◌, ℕ, ◌+◌, ◌-◌, ◌*◌, ◌≤◌, Bool, cond, ◌&&◌, List, [], ◌∷◌, ◌++◌, map, length, take, drop, Ok, Err, Result, ◌==◌, nat_le}
+use Rattle.std.specs.Prelude.{◌≡◌, ℕ, ◌+◌, ◌-◌, ◌*◌, ◌≤◌, Bool, cond, ◌&&◌, List, [], ◌∷◌, ◌++◌}
+use Rattle.std.specs.Prelude.{map, length, take, drop, Ok, Err, Result, ◌==◌, nat_le}
 use Rattle.row.specs.Kinds.{Kind}
 use Rattle.row.specs.Limits.{field_limit, text_limit}
 use Rattle.row.specs.Records as records
@@ -59,7 +60,8 @@ module _ {R : Type 0} (k : Kind R) where
   abbrev pub list_answer : List (Change R) → ℕ → ℕ → List ℕ → Result ℕ Refusal
   list_answer delta fields at xs =
       let written = end_or at (written_list (changes_of delta fields)) xs in
-      cond (length delta == field_limit) (cond (covers fields) written (Err uncovered)) (Err memory_refusal)
+      cond (length delta == field_limit) (cond (covers fields) written (Err uncovered))
+      (Err memory_refusal)
 
   abbrev pub list_placed : List (Change R) → ℕ → ℕ → List ℕ → List ℕ
   list_placed delta fields at xs =
@@ -70,4 +72,5 @@ module _ {R : Type 0} (k : Kind R) where
   abbrev pub ReadBack : List (Change R) → ℕ → Type 0
   ReadBack delta fields =
       length delta ≡ field_limit → 1 ≤ fields → fields ≤ field_limit
-      → read_list k.allowed fields (written_list (changes_of delta fields)) ≡ Ok (changes_of delta fields)
+      → read_list k.allowed fields (written_list (changes_of delta fields))
+      ≡ Ok (changes_of delta fields)

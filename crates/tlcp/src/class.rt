@@ -3,10 +3,13 @@ ghost use Rattle.std.specs.Prelude.{◌≡◌};
 ghost use Rattle.row.specs.Texts.{every};
 ghost use Rattle.tlcp.specs.Bytes.{bit_of, in_class};
 
-// kept: numbers, since a class is one bit of a constant table's entries, by the project's rule
+// Each is its bit in the entries of the table below.
+/// A class of bytes. A byte may be of several.
 #[derive(Clone, Copy)]
 pub enum Class {
+    /// `0` to `9`
     Digit = 1,
+    /// a hexadecimal digit of either case
     Hex = 2,
     /// written with an escape wherever it stands in a value
     Escaped = 4,

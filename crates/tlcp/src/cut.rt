@@ -8,7 +8,8 @@ use crate::part::Placed;
 use crate::text::split;
 
 impl<'a, const LIMIT: usize> Placed<'a, LIMIT> {
-    /// What stands before the first `b`, and what stands behind it, if there is one.
+    /// What stands before the first `b`, and what stands behind it; all, and nothing, where no `b`
+    /// stands in it.
     pub fn cut(self, b: u8) -> (Placed<'a, LIMIT>, Option<Placed<'a, LIMIT>>)
         ensures front { piece_in result.0 ≡ front_at b (piece_in self.entry) }
         ensures rest { option_map piece_in result.1 ≡ rest_at b (piece_in self.entry) }
@@ -18,7 +19,8 @@ impl<'a, const LIMIT: usize> Placed<'a, LIMIT> {
             bytes: front,
             at: self.at,
         };
-        // kept: the borrow checker does not cover a closure whose result has a parameter that nothing it takes names
+        // no closure: its result would have the parameter `LIMIT`, which nothing that it takes
+        // names
         match rest {
             Some(rest) => {
                 let at = self.at + (front.bytes.len() + 1);

@@ -9,7 +9,7 @@ use crate::write::put;
 use row::{Fault, Refusal};
 
 // The capital hexadecimal digit of a number below 16.
-// kept: the library's `from_digit` gives small letters
+// The library's `from_digit` gives small letters.
 pub(crate) fn hex_digit(n: u8) -> u8
     requires { n < 16 }
     ensures { result ≡ hex_digit n }
@@ -45,7 +45,7 @@ fn size(b: u8, class: Class) -> usize
 }
 
 // Whether a text takes no more than so many places, its bytes of the class escaped.
-// kept: of a `sum` behind `map` no bound is known, so it might overflow
+// Counted down from the room, since a sum of the sizes might overflow.
 fn is_within(text: &[u8], class: Class, room: usize) -> bool
     ensures { result ≡ nat_le (length (encoded_by (in_class class) text.now)) room }
 {
@@ -60,7 +60,9 @@ fn is_within(text: &[u8], class: Class, room: usize) -> bool
     true
 }
 
-/// Writes a text from the place `at` on, its bytes of the class escaped, if it fits, and answers the place behind it.
+/// Writes a text from the place `at` on, its bytes of the class as escapes with capital digits, and
+/// answers the place behind it. Refuses with 16 a text that does not fit, and has then touched
+/// nothing.
 pub fn put_escaped(out: &mut [u8], at: usize, text: &[u8], class: Class) -> Result<usize, Refusal>
     ensures answer { result ≡ end_or at (encoded_by (in_class class) text.now) out.old }
     ensures bytes { out.new ≡ placed_or at (encoded_by (in_class class) text.now) out.old }

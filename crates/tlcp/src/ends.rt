@@ -8,12 +8,11 @@ fn ends_here(s: &[u8]) -> bool
     matches!(s, [b'\r', b'\n', ..])
 }
 
-/// The place of the first CR LF, if there is one.
+/// The offset of the first CR LF, if there is one.
 pub fn find_end(s: &[u8]) -> Option<usize>
     ensures value { result ≡ first_end s.now }
     ensures within { IfSome result (λ end. end + 2 ≤ length s.now) }
 {
-    // kept: of windows(2).position(..) and of (0..len).find(..) the proof did not close
     for i in 0..s.len() {
         if ends_here(&s[i..]) {
             return Some(i);

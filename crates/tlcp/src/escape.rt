@@ -1,5 +1,6 @@
 //! Escapes: `%` and two hexadecimal digits stand for one byte.
-ghost use Rattle.std.specs.Prelude.{◌≡◌, ◌<◌, ◌≤◌, true, length, IfSome, if◌then◌else◌, Some, None, MatchResult};
+ghost use Rattle.std.specs.Prelude.{◌≡◌, ◌<◌, ◌≤◌, true, length, IfSome, if◌then◌else◌, Some, None};
+ghost use Rattle.std.specs.Prelude.{MatchResult};
 ghost use Rattle.std.specs.Option.{option_map};
 ghost use Rattle.tlcp.specs.Bytes.{is_hex};
 ghost use Rattle.tlcp.specs.Escapes.{hex_value, unit_of, decoded, decode_answer, overlaid};
@@ -8,7 +9,7 @@ use crate::class::{Class, is_of};
 use row::{Fault, Refusal};
 
 // The value of a hexadecimal digit of either case.
-// kept: which bytes are digits is the class table's to say, by the project's rule, and `to_digit` would say it again
+// Which bytes are digits is said by the class table alone, so this asks for one.
 fn hex_value(b: u8) -> u8
     requires { is_hex b ≡ true }
     ensures value { result ≡ hex_value b }
@@ -40,15 +41,16 @@ fn unit(s: &[u8]) -> Option<(u8, &[u8])>
     }
 }
 
-/// Decodes `s` into `out`, as much as there is room for. Answers how many bytes `s` stands for.
-/// Refuses the first `%` without two hexadecimal digits; `out` then has what comes before that.
+/// Decodes `s` into `out`, as much as there is room for, and answers how many bytes `s` stands for,
+/// also where they are more. Refuses with 3, at the `%`, the first one without two hexadecimal
+/// digits; `out` then has what comes before that.
 pub fn decode(s: &[u8], out: &mut [u8]) -> Result<usize, Refusal>
     ensures answer { result ≡ decode_answer (decoded s.now) }
     ensures bytes { out.new ≡ overlaid (decoded s.now).bytes out.old }
     ensures within { MatchResult result (λ n. n ≤ length s.now) (λ r. r.place < length s.now) }
 {
     let mut left = s;
-    // kept: counted by hand, since the count is the answer, also past the room
+    // the count goes on past the room
     let mut n = 0;
     while !left.is_empty() {
         let (b, rest) = unit(left).ok_or(Fault::Escape.at(s.len() - left.len()))?;

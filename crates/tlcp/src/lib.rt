@@ -1,4 +1,6 @@
-//! The text of TLCP 2.0.0: byte classes, escapes, numbers, value lists and lines.
+//! The text of TLCP 2.0.0: byte classes, escapes, numbers, value lists and the emulator's lines,
+//! read; and value lists written. A refusal has a number and a place, an offset from 0;
+//! `row::Fault` has the numbers.
 #![tactic(auto)]
 
 mod append;
@@ -29,7 +31,7 @@ pub use class::{Class, all_of, is_of};
 pub use encode::{hex_digits, put_escaped};
 pub use ends::find_end;
 pub use escape::{decode, hex_of};
-pub use examples::{logic_examples, worked_examples};
+pub use examples::{byte_sets_and_words, refused_texts, worked_examples};
 pub use line::{LINE_LIMIT, Line, Notification, Part, read_line};
 pub use list::{UNCOVERED, read_list};
 pub use list_write::{LIST_LIMIT, covers, write_list};

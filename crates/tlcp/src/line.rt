@@ -9,13 +9,14 @@ use crate::part::Placed;
 use crate::tag::Tag;
 use row::{Fault, Refusal};
 
-/// The bytes of a line, without its end.
+/// The bytes that a line may have, without its end.
 pub const LINE_LIMIT: usize = 1172;
 
-/// A part of a line.
+/// A part of a line: its bytes, and the offset of the first.
 pub type Part<'a> = Placed<'a, LINE_LIMIT>;
 
-/// What a line says.
+/// What a line says, a case for each tag. Numbers and codes come with the part that writes them;
+/// texts and the value list of U are parts as they stand in the line, escapes and all.
 #[derive(Clone, Copy)]
 pub enum Notification<'a> {
     Probe,
@@ -73,8 +74,10 @@ pub struct Line<'a> {
     pub says: Notification<'a>,
 }
 
-/// Reads a line, given without its end. Refuses one that is too long, has an unknown tag, too few
-/// arguments or too many, or an argument that is not what its place asks for.
+/// Reads a line, given without its end. Refuses, in this order: with 16 one of more than
+/// `LINE_LIMIT` bytes; with 5 an unknown tag; with 6 a missing argument, at the line's end, or one
+/// of PROBE, at its offset; and then, from left to right, with 4 a number or code, at its offset,
+/// and with 3 a text, at the `%` that begins no escape. The value list of U is not read.
 pub fn read_line(line: &[u8]) -> Result<Line<'_>, Refusal>
     ensures answer { said result ≡ read_line line.now }
     ensures said { ReadsSaid }

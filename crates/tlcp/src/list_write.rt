@@ -1,11 +1,12 @@
 //! Value lists: writing. A list is first written into a buffer, with a pipe before each value.
-ghost use Rattle.std.specs.Prelude.{◌≡◌, ◌+◌, ◌*◌, ◌≤◌, map, length, Ok};
+ghost use Rattle.std.specs.Prelude.{◌≡◌, ◌+◌, ◌*◌, ◌≤◌, map, length, IfOk, Ok};
 ghost use Rattle.row.specs.Limits.{field_limit, text_limit};
 ghost use Rattle.row.specs.Records.{change_of};
-ghost use Rattle.tlcp.specs.Bounds.{Adds, text_of};
+ghost use Rattle.tlcp.specs.Bounds.{Adds, bounded_text};
 ghost use Rattle.tlcp.specs.Lists.{each_piped, run_values, text_value, written_values};
 ghost use Rattle.std.specs.Result.{result_map_both};
-ghost use Rattle.tlcp.specs.Written.{covers, field_room, piped_limit, values_of, list_answer, list_placed, ReadBack};
+ghost use Rattle.tlcp.specs.Written.{covers, field_room, list_limit, piped_limit, values_of};
+ghost use Rattle.tlcp.specs.Written.{list_answer, list_placed, ReadBack};
 
 use crate::bounded::Bounded;
 use crate::class::Class;
@@ -16,18 +17,18 @@ use row::{Change, FIELD_LIMIT, Mark, Refusal, TEXT_LIMIT, Value};
 // For each field a pipe and a text whose bytes are all escaped.
 const PIPED_LIMIT: usize = (3 * TEXT_LIMIT + 1) * FIELD_LIMIT;
 
-/// The longest list: no pipe stands before the first value.
+/// The bytes of the longest list that is written: no pipe stands before the first value.
 pub const LIST_LIMIT: usize = PIPED_LIMIT - 1;
 
 type Piped = Bounded<PIPED_LIMIT>;
 
-// kept: each of the next three asks for the room of all that it puts, since what has no room would be put in part
+// Each of the next three asks for the room of all that it puts, so that nothing is put in part.
 
 // A text as a value.
 fn put_text(list: &mut Piped, text: &[u8]) -> Result<(), Refusal>
     requires short { length text.now ≤ text_limit }
-    requires room { length (text_of list.old) + 3 * text_limit ≤ piped_limit }
-    ensures { Adds (text_of list.old) (text_value text.now) result (text_of list.new) }
+    requires room { length (bounded_text list.old) + 3 * text_limit ≤ piped_limit }
+    ensures { Adds (bounded_text list.old) (text_value text.now) result (bounded_text list.new) }
 {
     match text {
         [] => list.put(b"$"),
@@ -41,8 +42,9 @@ fn put_text(list: &mut Piped, text: &[u8]) -> Result<(), Refusal>
 // A run of same, each value behind a pipe.
 fn put_run(list: &mut Piped, run: usize) -> Result<(), Refusal>
     requires few { run ≤ field_limit }
-    requires room { length (text_of list.old) + field_room * run ≤ piped_limit }
-    ensures { Adds (text_of list.old) (each_piped (run_values run)) result (text_of list.new) }
+    requires room { length (bounded_text list.old) + field_room * run ≤ piped_limit }
+    ensures { Adds (bounded_text list.old) (each_piped (run_values run)) result
+        (bounded_text list.new) }
 {
     if run <= 3 {
         let pipes = [b'|'; 3];
@@ -54,14 +56,14 @@ fn put_run(list: &mut Piped, run: usize) -> Result<(), Refusal>
 
 // The value of a change, behind a pipe. One that is same has none of its own.
 fn put_change<R: Value>(list: &mut Piped, change: &Change<R>) -> Result<(), Refusal>
-    requires { length (text_of list.old) + field_room ≤ piped_limit }
-    ensures { Adds (text_of list.old) (each_piped (values_of (change_of R.kind change.now))) result (text_of list.new) }
+    requires { length (bounded_text list.old) + field_room ≤ piped_limit }
+    ensures { Adds (bounded_text list.old)
+        (each_piped (values_of (change_of R.kind change.now))) result (bounded_text list.new) }
 {
     match change.mark {
         Mark::Same => Ok(()),
         Mark::Null => list.put(b"|#"),
         Mark::Value => {
-            // kept: `Value::write` fills lent bytes, by the project's rule, and `row` knows no `Bounded`
             let mut text = [0; TEXT_LIMIT];
             let len = change.raw.write(&mut text);
             list.put(b"|")?;
@@ -73,7 +75,8 @@ fn put_change<R: Value>(list: &mut Piped, change: &Change<R>) -> Result<(), Refu
 // The values of a delta, each behind a pipe.
 fn piped<R: Value>(delta: &[Change<R>]) -> Result<Piped, Refusal>
     requires { length delta.now ≤ field_limit }
-    ensures { result_map_both text_of (λ e. e) result ≡ Ok (each_piped (written_values 0 (map (change_of R.kind) delta.now))) }
+    ensures { result_map_both bounded_text (λ e. e) result
+        ≡ Ok (each_piped (written_values 0 (map (change_of R.kind) delta.now))) }
 {
     let mut list = Piped::new();
     let mut run = 0;
@@ -90,15 +93,17 @@ fn piped<R: Value>(delta: &[Change<R>]) -> Result<Piped, Refusal>
     Ok(list)
 }
 
-/// Whether a list covers so many fields.
+/// Whether a row may have so many fields: 1 to 12.
 pub fn covers(fields: usize) -> bool
     ensures { result ≡ covers fields }
 {
     matches!(fields, 1..=FIELD_LIMIT)
 }
 
-// kept: here and in what calls it, a row's lent changes are twelve by the project's rule, and the field count comes beside
-// Writes the changes of the first fields of a delta as a list from the place `at` on, if it fits, and answers the place behind it.
+/// Writes the changes of the first `fields` fields of a delta as a list from the place `at` on, and
+/// answers the place behind it. Refuses with 1 a delta that is not twelve changes, with 7 a row of
+/// no or more than twelve fields, and with 16 a list that does not fit, and has then touched
+/// nothing. A list has at most `LIST_LIMIT` bytes.
 pub fn write_list<R: Value>(
     out: &mut [u8],
     at: usize,
@@ -108,6 +113,8 @@ pub fn write_list<R: Value>(
     ensures answer { result ≡ list_answer R.kind delta.now fields at out.old }
     ensures bytes { out.new ≡ list_placed R.kind delta.now fields at out.old }
     ensures read_back { ReadBack R.kind delta.now fields }
+    ensures short { IfOk result (λ end. end ≤ at + LIST_LIMIT) }
+    ensures limit { LIST_LIMIT ≡ list_limit }
 {
     if delta.len() != FIELD_LIMIT {
         return Err(Refusal::MEMORY);

@@ -1,6 +1,7 @@
 //! Numbers in decimal, without sign or leading zero, and codes, which may be negative.
 ghost use Rattle.std.specs.Prelude.{◌≡◌, ℕ, ◌≤◌, ◌||◌, length, ℤ, IfSome, ◌==◌};
-ghost use Rattle.tlcp.specs.Numbers.{leading_zero, number_of, code_of};
+ghost use Rattle.tlcp.specs.Numbers.{leading_zero, read_number, read_code};
+ghost use Rattle.tlcp.specs.Parts.{is_nil};
 ghost use Rattle.tlcp.specs.Holding.{hold};
 
 use crate::class::{Class, is_of};
@@ -15,7 +16,7 @@ pub const COUNT_LIMIT: u32 = 999_999_999;
 /// The largest magnitude of a code.
 pub const CODE_LIMIT: u32 = 999_999;
 
-/// The numbers that a place takes: from `low` to `high`.
+/// The numbers that a place takes: from `low` to `high`, both included.
 #[derive(Clone, Copy)]
 pub struct Limits {
     pub low: u32,
@@ -23,6 +24,7 @@ pub struct Limits {
 }
 
 impl Limits {
+    /// a subscription ID
     pub const ID: Limits = Limits {
         low: 1,
         high: ID_LIMIT,
@@ -30,16 +32,19 @@ impl Limits {
     /// an item, and how many there are
     pub const SINGLE: Limits = Limits { low: 1, high: 1 };
 
+    /// a row's number of fields
     pub const FIELDS: Limits = Limits {
         low: 1,
         high: FIELD_LIMIT as u32,
     };
 
+    /// a count
     pub const COUNT: Limits = Limits {
         low: 0,
         high: COUNT_LIMIT,
     };
 
+    /// Whether a number is within the limits.
     pub fn hold(self, n: u32) -> bool
         ensures { result ≡ hold self n }
     {
@@ -60,15 +65,16 @@ const FROM_ZERO: Limits = Limits {
 
 // Empty, or with a zero before other digits.
 fn is_misshapen(s: &[u8]) -> bool
-    ensures { result ≡ (length s.now == 0 || leading_zero s.now) }
+    ensures { result ≡ (is_nil s.now || leading_zero s.now) }
 {
     matches!(s, [] | [b'0', _, ..])
 }
 
-/// The number that `s` writes, if it is within the limits.
-// kept: digit by digit; the library's `parse` takes a sign and leading zeros
+/// The number that `s` writes; none where it is empty, has another byte than digits or a zero
+/// before other digits, or is beyond the limits.
+// The library's `parse` takes a sign and leading zeros.
 pub fn read_number(s: &[u8], limits: Limits) -> Option<u32>
-    ensures value { result ≡ number_of limits.low limits.high s.now }
+    ensures value { result ≡ read_number limits.low limits.high s.now }
     ensures bound { IfSome result (λ n. (limits.low ≤ n) × (n ≤ limits.high)) }
 {
     if is_misshapen(s) {
@@ -88,9 +94,10 @@ pub fn read_number(s: &[u8], limits: Limits) -> Option<u32>
     (u64::from(low) <= value).then_some(value as u32)
 }
 
-/// The code that `s` writes: a number up to the limit, or one below zero with a minus before it.
+/// The code that `s` writes: a number up to `CODE_LIMIT`, or one below zero with a minus before it.
+/// None where it is neither; `-0` is none.
 pub fn read_code(s: &[u8]) -> Option<i32>
-    ensures { result ≡ code_of s.now }
+    ensures { result ≡ read_code s.now }
 {
     match s {
         [b'-', digits @ ..] => read_number(digits, BELOW_ZERO).map(|n| -(n as i32)),

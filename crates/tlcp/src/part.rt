@@ -1,7 +1,7 @@
 //! Parts of a text.
 ghost use Rattle.std.specs.Prelude.{◌+◌, ◌≤◌, length};
 
-/// A part of a text of no more than so many bytes, and the offset of its first byte.
+/// A part of a text of no more than `LIMIT` bytes, and the offset of its first byte in that text.
 #[derive(Clone, Copy)]
 pub struct Placed<'a, const LIMIT: usize> {
     pub bytes: &'a [u8],

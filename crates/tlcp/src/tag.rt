@@ -4,6 +4,8 @@ ghost use Rattle.tlcp.specs.Lines.{tag_of, word};
 
 use crate::word::{Worded, first_with};
 
+/// What a line's first word may be. Other words, those of the protocol's other notifications among
+/// them, are unknown.
 #[derive(Clone, Copy, PartialEq, Debug)]
 pub enum Tag {
     U,
@@ -75,8 +77,7 @@ impl Worded for Tag {
 }
 
 impl Tag {
-    /// The tag that a word stands for.
-    // kept: with `TryFrom`, whose error is the unknown tag's refusal, the proof of `read_line` did not close
+    /// The tag that a word stands for, in capital letters as it is written; none for other words.
     pub fn of(word: &[u8]) -> Option<Tag>
         ensures { result ≡ tag_of word.now }
     {

@@ -1,10 +1,11 @@
-//! Texts divided at a byte.
-ghost use Rattle.std.specs.Prelude.{◌≡◌, ◌+◌, ◌<◌, ◌≤◌, length, position, IfSome, MatchOption, ◌==◌};
+//! Texts divided at a byte, and compared.
+ghost use Rattle.std.specs.Prelude.{◌≡◌, ◌+◌, ◌<◌, ◌≤◌, length, position, IfSome, MatchOption};
+ghost use Rattle.std.specs.Prelude.{◌==◌};
 ghost use Rattle.std.specs.Option.{option_map};
 ghost use Rattle.tlcp.specs.Lines.{same_bytes};
 ghost use Rattle.tlcp.specs.Parts.{before, behind};
 
-/// The place of the first `b`, if there is one.
+/// The offset of the first `b`, if there is one.
 pub fn find(s: &[u8], b: u8) -> Option<usize>
     ensures value { result ≡ position (λ x. x == b) s.now }
     ensures within { IfSome result (λ i. i < length s.now) }
@@ -12,13 +13,14 @@ pub fn find(s: &[u8], b: u8) -> Option<usize>
     s.iter().position(|x| *x == b)
 }
 
-/// What stands before the first `b`, and what stands behind it, if there is one.
-// kept: a stream's lines are cut by a function of their own, part by part; with this one `follow` is slower than before
+/// What stands before the first `b`, and what stands behind it; all, and nothing, where no `b`
+/// stands in it.
 pub fn split(s: &[u8], b: u8) -> (&[u8], Option<&[u8]>)
     ensures front { result.0.now ≡ before b s.now }
     ensures back { option_map (λ x. x.now) result.1 ≡ behind b s.now }
     ensures within { length result.0.now ≤ length s.now }
-    ensures sizes { MatchOption result.1 (length result.0.now ≡ length s.now) (λ t. length result.0.now + (length t.now + 1) ≡ length s.now) }
+    ensures sizes { MatchOption result.1 (length result.0.now ≡ length s.now)
+        (λ t. length result.0.now + (length t.now + 1) ≡ length s.now) }
 {
     match find(s, b) {
         Some(end) => (&s[..end], Some(&s[end + 1..])),

@@ -8,11 +8,12 @@ use crate::text::is_word;
 pub trait Worded: Copy {
     ghost word_of: { Self → List ℕ };
 
+    /// The word.
     fn word(self) -> &'static [u8]
         ensures { result.now ≡ word_of self };
 }
 
-/// The first of some things that has this word.
+/// The first of some things that has this word, byte for byte, if one has it.
 pub fn first_with<W: Worded>(all: &[W], word: &[u8]) -> Option<W>
     ensures { result ≡ first_with W.word_of all.now word.now }
 {

@@ -1,13 +1,13 @@
-//! Bytes and numbers written into lent memory.
+//! Bytes and numbers written into lent memory. A writer takes the memory and a place, and answers
+//! the place behind what it wrote, from which its caller goes on.
 ghost use Rattle.std.specs.Prelude.{◌≡◌, decimal};
 ghost use Rattle.tlcp.specs.Written.{end_or, placed_or};
 
 use itoa::Buffer;
 use row::{Fault, Refusal};
 
-// kept: in all writers the bytes are lent, by the project's rule, and a caller goes on from the place
-
-/// Writes `bytes` from the place `at` on, if they fit, and answers the place behind them.
+/// Writes `bytes` from the place `at` on, and answers the place behind them. Refuses with 16 where
+/// they do not fit, and has then touched nothing.
 pub fn put(out: &mut [u8], at: usize, bytes: &[u8]) -> Result<usize, Refusal>
     ensures answer { result ≡ end_or at bytes.now out.old }
     ensures bytes { out.new ≡ placed_or at bytes.now out.old }
@@ -20,7 +20,7 @@ pub fn put(out: &mut [u8], at: usize, bytes: &[u8]) -> Result<usize, Refusal>
     Ok(end)
 }
 
-/// Writes a number in decimal.
+/// Writes a number in decimal, as `put` writes bytes.
 pub fn write_number(out: &mut [u8], at: usize, n: u64) -> Result<usize, Refusal>
     ensures answer { result ≡ end_or at (decimal n) out.old }
     ensures bytes { out.new ≡ placed_or at (decimal n) out.old }

@@ -5,8 +5,11 @@ use Rattle.std.specs.Array.{IsMapOf}
 use Rattle.std.specs.Fn.{Called}
 use denote.Param.Members.{Mut}
 
-module _ {F A B : Type 0} (g : Mut F (A × Unit {0}) B) (f : F) (h : A → B) (xs : List A) (ys : List B) (n : ℕ) (d : A) where
-  pub mapped : IsMapOf g f xs ys n → length xs ≡ n → ((x : A) (r : B) (p q : F) → Called g p (x, tt) r q → r ≡ h x) → ys ≡ map h xs
+module _ {F A B : Type 0} (g : Mut F (A × Unit {0}) B) (f : F) (h : A → B) (xs : List A)
+    (ys : List B) (n : ℕ) (d : A) where
+  pub mapped :
+      IsMapOf g f xs ys n → length xs ≡ n
+      → ((x : A) (r : B) (p q : F) → Called g p (x, tt) r q → r ≡ h x) → ys ≡ map h xs
   mapped is whole gives =
       same_lists ys (map h xs) (is.long ∙ sym whole ∙ sym (length-map xs h))
       (λ k e within.

@@ -3,7 +3,9 @@ use Rattle.std.specs.Prelude.{ℕ, List, [], slice_index_or}
 use Rattle.tlcp.specs.Lines.{Argument, numbered, coded, worded, listed, piece_of, piece}
 use Rattle.tlcp.specs.Parts.{Piece}
 use Rattle.tlcp.specs.declared.tag.Tag.{Tag}
-use Rattle.tlcp.specs.declared.tag.Tag.TheVariants.{U, Probe, Sync, Loop, Cons, Servname, Clientip, Reqok, Unsub, Conerr, End, Error, Eos, Subok, Ov, Conf, Reqerr, Conok}
+use Rattle.tlcp.specs.declared.tag.Tag.TheVariants.{U, Probe, Sync, Loop, Cons, Servname, Clientip}
+use Rattle.tlcp.specs.declared.tag.Tag.TheVariants.{Reqok, Unsub, Conerr, End, Error, Eos, Subok}
+use Rattle.tlcp.specs.declared.tag.Tag.TheVariants.{Ov, Conf, Reqerr, Conok}
 
 pub data Effect : Type 0 where
   opens : ℕ → ℕ → Effect

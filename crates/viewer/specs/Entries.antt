@@ -1,5 +1,6 @@
 -- Which entry a line speaks to.
-use Rattle.std.specs.Prelude.{ℕ, Bool, ◌&&◌, List, Some, None, Option, ◌==◌, get_or, is_some, position}
+use Rattle.std.specs.Prelude.{ℕ, Bool, ◌&&◌, List, Some, None, Option, ◌==◌, get_or, is_some}
+use Rattle.std.specs.Prelude.{position}
 use Rattle.std.specs.Option.{option_map}
 use Rattle.viewer.specs.declared.entry.Entry.{Entry}
 

@@ -1,9 +1,11 @@
 -- What a viewer makes of a line: by the texts of its cells and changes, and so in memory.
-use Rattle.std.specs.Prelude.{◌≡◌, ℕ, Bool, true, cond, ◌&&◌, List, map, length, fold, replicate, Some, None, Ok, Err, Option, Result, ◌==◌, slice_set}
+use Rattle.std.specs.Prelude.{◌≡◌, ℕ, Bool, cond, ◌&&◌, List, map, length, fold, replicate, Some}
+use Rattle.std.specs.Prelude.{None, Ok, Err, Option, Result, ◌==◌, slice_set}
 use Rattle.row.specs.Faults.{moved}
 use Rattle.row.specs.Kinds.{Kind}
 use Rattle.row.specs.Limits.{field_limit, cell_limit}
-use Rattle.row.specs.Records.{cell_of, cell_record, change_of, change_record, canonical_cell, memory_refusal}
+use Rattle.row.specs.Records.{cell_of, cell_record, change_of, change_record, canonical_cell}
+use Rattle.row.specs.Records.{memory_refusal}
 use Rattle.row.specs.Rows.{Cell, Change, null, blank, changed, row_at, with_row}
 use Rattle.row.specs.declared.change.Cell as cells
 use Rattle.row.specs.declared.change.Change as changes
@@ -108,8 +110,8 @@ module _ (allowed : List ℕ → Bool) where
   -- the entries and cells after one line more
   abbrev pub after_line : List Entry × List Cell → List ℕ → List Entry × List Cell
   after_line v line =
-      let heard = hear allowed v.0 v.1 line in
-      (entries_after v.0 heard, cells_after v.1 heard)
+      let made = hear allowed v.0 v.1 line in
+      (entries_after v.0 made, cells_after v.1 made)
 
   -- the entries and cells after some lines, heard in order
   abbrev pub after_lines : List Entry × List Cell → List (List ℕ) → List Entry × List Cell
@@ -126,9 +128,10 @@ pub record Outcome (R : Type 0) : Type 0 where
   pub delta : List (changes.Change R)
   pub answer : Result Heard Refusal
 
-abbrev pub outcome :
-    {R : Type 0} → List Entry → List (cells.Cell R) → List (changes.Change R) → Result Heard Refusal → Outcome R
-outcome es cs d a = record { entries = es; cells = cs; delta = d; answer = a }
+module _ {R : Type 0} where
+  abbrev pub outcome :
+      List Entry → List (cells.Cell R) → List (changes.Change R) → Result Heard Refusal → Outcome R
+  outcome es cs d a = record { entries = es; cells = cs; delta = d; answer = a }
 
 module _ {R : Type 0} (k : Kind R) where
   -- the records of cells, in place of the row with index i
@@ -143,27 +146,28 @@ module _ {R : Type 0} (k : Kind R) where
   -- how memory holds what a line leaves
   abbrev pub in_memory : List Entry → List (cells.Cell R) → Result View Refusal → Outcome R
   in_memory es cs (Ok v) =
-      outcome v.entries (put_touched v.touched v.cells cs) (map (change_record k) v.brought) (Ok v.answer)
+      outcome v.entries (put_touched v.touched v.cells cs) (map (change_record k) v.brought)
+      (Ok v.answer)
   in_memory es cs (Err r) = outcome es cs (map (change_record k) blank) (Err r)
 
   -- the memory is a row of cells for each tap, and the changes of one row
   abbrev pub fitting : List (cells.Cell R) → List (changes.Change R) → Bool
   fitting cs delta = length cs == cell_limit && length delta == field_limit
 
-  -- what a line makes of memory: what it makes of the texts that the records mean, if the memory fits
+  -- what a line makes of the texts that memory means
+  abbrev pub told : List Entry → List (cells.Cell R) → List ℕ → Result View Refusal
+  told es cs line = hear k.allowed es (map (cell_of k) cs) line
+
+  -- what a line makes of memory, if that fits
   abbrev pub heard :
       List Entry → List (cells.Cell R) → List (changes.Change R) → List ℕ → Outcome R
   heard es cs delta line =
-      cond (fitting cs delta)
-      (in_memory es cs (hear k.allowed es (map (cell_of k) cs) line))
+      cond (fitting cs delta) (in_memory es cs (told es cs line))
       (outcome es cs delta (Err memory_refusal))
 
-  -- what memory held in texts, and what a line makes of these
-  abbrev told : List Entry → List (cells.Cell R) → List ℕ → Result View Refusal
-  told es cs line = hear k.allowed es (map (cell_of k) cs) line
-
   -- memory means what hearing makes of the texts that it meant
-  pub record MeansHeard (es : List Entry) (cs : List (cells.Cell R)) (line : List ℕ) (o : Outcome R) : Type 0 where
+  pub record MeansHeard
+      (es : List Entry) (cs : List (cells.Cell R)) (line : List ℕ) (o : Outcome R) : Type 0 where
     pub entries : o.entries ≡ entries_after es (told es cs line)
     pub cells : map (cell_of k) o.cells ≡ cells_after (map (cell_of k) cs) (told es cs line)
     pub delta : map (change_of k) o.delta ≡ brought_by (told es cs line)

@@ -1,12 +1,14 @@
--- Laws of hearing, in the subject's words: which entry and which row a line changes, and how. They are stated of
--- texts, for every kind of value, every line and every viewer of eight entries and their cells.
-use Rattle.std.specs.Prelude.{◌≡◌, ◌≢◌, ℕ, ◌+◌, ◌*◌, ◌<◌, ◌≤◌, Bool, List, [], ◌∷◌, length, get_or, Some, None, Ok, Err, Result, IsOkAnd, IsSome}
+-- Laws of hearing, in the subject's words: which entry and which row a line changes, and how. They
+-- are stated of texts, for every kind of value, every line and every viewer of eight entries.
+use Rattle.std.specs.Prelude.{◌≡◌, ◌≢◌, ℕ, ◌+◌, ◌-◌, ◌*◌, ◌<◌, ◌≤◌, Bool, List, [], ◌∷◌, ◌++◌}
+use Rattle.std.specs.Prelude.{length}
+use Rattle.std.specs.Prelude.{get_or, replicate, Some, None, Ok, Err, Result, IsOkAnd, IsSome}
 use Rattle.std.specs.List.{AllByRecursion}
 use Rattle.row.specs.Faults.{moved}
 use Rattle.row.specs.Limits.{field_limit, tap_limit, cell_limit}
-use Rattle.row.specs.Rows.{Cell, Change, null, becomes, blank, changed, row_at, with_row}
+use Rattle.row.specs.RowLaws.{cell_at}
+use Rattle.row.specs.Rows.{Cell, Change, null, same, becomes, blank, changed, row_at, with_row}
 use Rattle.row.specs.declared.fault.Refusal.{Refusal}
-use Rattle.tlcp.specs.Held.{filled}
 use Rattle.tlcp.specs.Lines.{Argument, Message, numbered, listed, read_line, Says}
 use Rattle.tlcp.specs.Lists.{Allowed, read_list, Spells}
 use Rattle.tlcp.specs.Parts.{Piece}
@@ -14,7 +16,7 @@ use Rattle.tlcp.specs.declared.tag.Tag.{Tag}
 use Rattle.tlcp.specs.declared.tag.Tag.TheVariants.{U, Unsub, Subok}
 use Rattle.viewer.specs.Effects.{Effect, opens, closes, updates, nothing}
 use Rattle.viewer.specs.Entries.{closed}
-use Rattle.viewer.specs.Hearing.{View, hear, null_cells, after_lines}
+use Rattle.viewer.specs.Hearing.{View, hear, after_lines}
 use Rattle.viewer.specs.declared.entry.Entry.{Entry}
 use Rattle.viewer.specs.declared.hear.Heard.{Heard}
 use Rattle.viewer.specs.declared.hear.Heard.TheVariants.{Taken, Passed}
@@ -51,7 +53,7 @@ AsksOne =
 abbrev pub entry_at : List Entry → ℕ → Entry
 entry_at es i = get_or es i closed
 
--- an entry that a line speaks to: for SUBOK and UNSUB one with its ID, for U an open one with its ID
+-- an entry that a line speaks to: for SUBOK and UNSUB one with its ID, for U an open one with it
 abbrev pub Fits : Effect → Entry → Type 0
 Fits (opens id n) e = e.id ≡ id
 Fits (closes id) e = e.id ≡ id
@@ -76,7 +78,8 @@ module _ (es : List Entry) (cs : List Cell) where
   abbrev pub Stays : ℕ → View → Type 0
   Stays j v = (entry_at v.entries j ≡ entry_at es j) × (row_at j v.cells ≡ row_at j cs)
 
-  -- the entry with index i is e now, its row is r, and the line brought the delta d; all else is as it was
+  -- the entry with index i is e now, its row is r, and the line brought the delta d; the other
+  -- entries and rows are as they were
   pub record Sets (i : ℕ) (e : Entry) (r : List Cell) (d : List Change) (v : View) : Type 0 where
     pub entry : entry_at v.entries i ≡ e
     pub row : row_at i v.cells ≡ r
@@ -100,18 +103,23 @@ module _ (es : List Entry) (cs : List Cell) where
       -- whether it was open before or not
       pub subok :
           (id n i : ℕ) → Asks line (opens id n) → First (opens id n) es i
-          → IsOkAnd told (Sets i (record { id = id; fields = Some n }) null_cells blank)
+          → IsOkAnd told
+          (Sets i (record { id = id; fields = Some n }) (replicate field_limit null) blank)
       -- after UNSUB the first entry with its ID has the ID 0 and is closed, and its row is null
       pub unsub :
           (id i : ℕ) → Asks line (closes id) → First (closes id) es i
-          → IsOkAnd told (Sets i (record { id = 0; fields = None }) null_cells blank)
+          → IsOkAnd told
+          (Sets i (record { id = 0; fields = None }) (replicate field_limit null) blank)
       -- after U the row of the first open entry with its ID is changed by the delta that the list
-      -- spells, one change for each of the entry's fields, and that delta was brought
+      -- spells, one change for each of the entry's fields, and that delta was brought, with same
+      -- behind it
       pub update :
           (id n i : ℕ) (list : Piece) (d : List Change) → Asks line (updates id list)
           → First (updates id list) es i → (entry_at es i).fields ≡ Some n → n ≤ field_limit
           → Spells allowed list.text d → length d ≡ n
-          → IsOkAnd told (Sets i (entry_at es i) (changed (row_at i cs) (filled d)) (filled d))
+          → IsOkAnd told
+          (Sets i (entry_at es i) (changed (row_at i cs) d)
+          (d ++ replicate (field_limit - n) same))
       -- where its list is refused for that many fields, U is refused, with the list's fault
       -- at its place in the line
       pub unspelled :
@@ -151,6 +159,8 @@ HearingLaws =
 
 -- lines are heard one after another, and a refused one changes nothing
 pub record LinesLaws : Type 0 where
+  pub none :
+      (allowed : List ℕ → Bool) (v : List Entry × List Cell) → after_lines allowed v [] ≡ v
   pub accepted :
       (allowed : List ℕ → Bool) (es : List Entry) (cs : List Cell) (line : List ℕ)
       (lines : List (List ℕ)) (v : View) → hear allowed es cs line ≡ Ok v
@@ -165,7 +175,7 @@ pub record RowsApart : Type 0 where
   -- the field f of the row with index i, both counted from 0, is the cell 12 * i + f
   pub place :
       (cs : List Cell) (i f : ℕ) → f < field_limit
-      → get_or (row_at i cs) f null ≡ get_or cs (field_limit * i + f) null
+      → cell_at (row_at i cs) f ≡ cell_at cs (field_limit * i + f)
   -- no other field of any row is that cell
   pub apart :
       (i j f g : ℕ) → f < field_limit → g < field_limit

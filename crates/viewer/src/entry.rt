@@ -2,16 +2,20 @@
 ghost use Rattle.std.specs.Prelude.{◌≡◌, ◌<◌, length, IfSome};
 ghost use Rattle.viewer.specs.Entries.{find_entry, find_open, fits, fits_open};
 
-/// What the viewer knows of a tap: its subscription ID, and the field count if that is open.
-// kept: a tap's cells do not stand in its entry, since they are lent, by the project's rule
-// kept: 0 for no ID; `Viewer::holding` takes any numbers, so of an Option `None` and `Some(0)` would both be no ID
+/// What a viewer knows of a tap. The tap's cells do not stand here, since they lie in memory that
+/// is lent to the viewer for each line.
+// a viewer can be made with any IDs, so of an `Option` both `None` and `Some(0)` would be no ID
 #[derive(Clone, Copy, PartialEq, Debug)]
 pub struct Entry {
+    /// The subscription ID, 0 for none.
     pub id: u32,
+    /// How many fields the tap's row has, 1 to 12, while the entry is open; `None` where it is
+    /// closed.
     pub fields: Option<usize>,
 }
 
 impl Entry {
+    /// No ID, and closed.
     pub const CLOSED: Entry = Entry {
         id: 0,
         fields: None,
@@ -31,7 +35,8 @@ pub(crate) fn find_open(entries: &[Entry], id: u32) -> Option<(usize, usize)>
     ensures value { result ≡ find_open id entries.now }
     ensures within { IfSome result (λ found. found.0 < length entries.now) }
 {
-    // kept: found by its index and then asked again; with `enumerate` and `find_map` the proof did not close
+    // the library equates `position` with the list's first index, but says of `find_map` only what
+    // a run of its iterator gave
     let i = find_open_index(entries, id)?;
     let fields = entries[i].fields?;
     Some((i, fields))

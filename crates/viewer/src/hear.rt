@@ -1,11 +1,13 @@
-//! A viewer: hears lines, and keeps the rows of subscribed taps.
-ghost use Rattle.std.specs.Prelude.{◌≡◌, true, map, length, Ok, OnErr};
+//! A viewer hears lines, and keeps the rows of subscribed taps.
+ghost use Rattle.std.specs.Prelude.{◌≡◌, true, false, map, length, Ok, OnErr};
+ghost use Rattle.row.specs.Faults.{by_numbers, refused};
 ghost use Rattle.row.specs.Limits.{field_limit, tap_limit, cell_limit};
 ghost use Rattle.row.specs.Records.{cell_of};
 ghost use Rattle.tlcp.specs.Said.{arguments_in, piece_in, tag_in};
-ghost use Rattle.viewer.specs.Entries.{find_entry, find_open, fits, waiting};
 ghost use Rattle.viewer.specs.Effects.{effect_of};
-ghost use Rattle.viewer.specs.Hearing.{set_entry, update, hear_effect, hear, heard, in_memory, outcome, fitting, MeansHeard, StaysCanonical};
+ghost use Rattle.viewer.specs.Entries.{find_entry, find_open, fits, waiting};
+ghost use Rattle.viewer.specs.Hearing.{set_entry, update, hear_effect, told, heard, in_memory};
+ghost use Rattle.viewer.specs.Hearing.{outcome, fitting, MeansHeard, StaysCanonical};
 
 use crate::entry::{Entry, find_entry, find_open};
 use crate::rows::{clear_row, update_row};
@@ -15,20 +17,23 @@ use tlcp::{Notification, Part, read_line, read_list};
 /// What came of a line that was accepted.
 #[derive(Clone, Copy, PartialEq, Debug)]
 pub enum Heard {
+    /// The line was obeyed, or asks nothing of a viewer.
     Taken,
-    /// no entry fits it
+    /// The line speaks to an entry, and no entry fits it. Nothing was changed.
     Passed,
 }
 
+/// The viewer's entries, one for each tap. The cells of the taps are lent to it with each line:
+/// 96 of them, the row of the tap with index i, counted from 0, being the twelve from 12 * i on.
+// cells and changes are parameters of their own: a struct over both slices would need a clause in
+// each contract that it keeps their lengths, and of a generic type the checker covers no array
 #[derive(Drop)]
 pub struct Viewer {
     entries: [Entry; TAP_LIMIT],
 }
 
-// kept: lent cells and changes are two parameters with a length each; a struct over both needs a clause at each function that
-// it keeps their places, and of a slice of a generic type the checker covers no array
 impl Viewer {
-    /// A viewer whose entries hold these IDs, closed.
+    /// A viewer whose entries hold these IDs, 0 for none, all of them closed.
     pub fn holding(ids: [u32; TAP_LIMIT]) -> Viewer
         ensures { result.entries ≡ map waiting ids }
     {
@@ -37,7 +42,7 @@ impl Viewer {
         }
     }
 
-    /// The entries, one for each tap.
+    /// The entries, in the order of the taps.
     pub fn entries(&self) -> &[Entry]
         ensures value { result.now ≡ self.now.entries }
         ensures len { length result.now ≡ tap_limit }
@@ -45,27 +50,30 @@ impl Viewer {
         &self.entries
     }
 
-    // Sets the entry with an ID anew, open or not, and makes its cells null.
+    // Sets the first entry with an ID anew, open or not, and makes its row null.
     fn set_entry<R: Value>(
         &mut self,
         id: u32,
         entry: Entry,
         cells: &mut [Cell<R>],
         delta: &mut [Change<R>],
-    ) -> Result<Heard, Refusal>
+    ) -> Heard
         requires { (length cells.old ≡ cell_limit) × (length delta.old ≡ field_limit) }
-        ensures { outcome self.new.entries cells.new delta.new result ≡ in_memory R.kind self.old.entries cells.old (Ok (set_entry self.old.entries (map (cell_of R.kind) cells.old) entry (find_entry (fits id) self.old.entries))) }
+        ensures { outcome self.new.entries cells.new delta.new (Ok result) ≡
+            in_memory R.kind self.old.entries cells.old
+            (Ok (set_entry self.old.entries (map (cell_of R.kind) cells.old) entry
+            (find_entry (fits id) self.old.entries))) }
     {
         blank(delta);
         let Some(i) = find_entry(&self.entries, id) else {
-            return Ok(Heard::Passed);
+            return Heard::Passed;
         };
         self.entries[i] = entry;
         clear_row(cells, i);
-        Ok(Heard::Taken)
+        Heard::Taken
     }
 
-    // Changes the row of the open entry with an ID by a value list.
+    // Changes the row of the first open entry with an ID by a value list.
     fn update<R: Value>(
         &self,
         id: u32,
@@ -74,7 +82,10 @@ impl Viewer {
         delta: &mut [Change<R>],
     ) -> Result<Heard, Refusal>
         requires { (length cells.old ≡ cell_limit) × (length delta.old ≡ field_limit) }
-        ensures { outcome self.now.entries cells.new delta.new result ≡ in_memory R.kind self.now.entries cells.old (update self.now.entries (map (cell_of R.kind) cells.old) R.kind.allowed (piece_in values.entry) (find_open id self.now.entries)) }
+        ensures { outcome self.now.entries cells.new delta.new result ≡
+            in_memory R.kind self.now.entries cells.old
+            (update self.now.entries (map (cell_of R.kind) cells.old) R.kind.allowed
+            (piece_in values.entry) (find_open id self.now.entries)) }
     {
         let Some((i, fields)) = find_open(&self.entries, id) else {
             blank(delta);
@@ -93,7 +104,10 @@ impl Viewer {
         delta: &mut [Change<R>],
     ) -> Result<Heard, Refusal>
         requires { (length cells.old ≡ cell_limit) × (length delta.old ≡ field_limit) }
-        ensures { outcome self.new.entries cells.new delta.new result ≡ in_memory R.kind self.old.entries cells.old (hear_effect self.old.entries (map (cell_of R.kind) cells.old) R.kind.allowed (effect_of (tag_in says.entry) (arguments_in says.entry))) }
+        ensures { outcome self.new.entries cells.new delta.new result ≡
+            in_memory R.kind self.old.entries cells.old
+            (hear_effect self.old.entries (map (cell_of R.kind) cells.old) R.kind.allowed
+            (effect_of (tag_in says.entry) (arguments_in says.entry))) }
     {
         match says {
             Notification::Subok {
@@ -105,9 +119,9 @@ impl Viewer {
                     id: id.value,
                     fields: Some(fields.value as usize),
                 };
-                self.set_entry(id.value, entry, cells, delta)
+                Ok(self.set_entry(id.value, entry, cells, delta))
             }
-            Notification::Unsub(id) => self.set_entry(id.value, Entry::CLOSED, cells, delta),
+            Notification::Unsub(id) => Ok(self.set_entry(id.value, Entry::CLOSED, cells, delta)),
             Notification::U {
                 id,
                 item: _,
@@ -120,7 +134,7 @@ impl Viewer {
         }
     }
 
-    // Hears a line in memory that fits.
+    // Hears a line, where the lent memory is of its lengths.
     fn hear_line<R: Value>(
         &mut self,
         line: &[u8],
@@ -128,30 +142,58 @@ impl Viewer {
         delta: &mut [Change<R>],
     ) -> Result<Heard, Refusal>
         requires { (length cells.old ≡ cell_limit) × (length delta.old ≡ field_limit) }
-        ensures { outcome self.new.entries cells.new delta.new result ≡ in_memory R.kind self.old.entries cells.old (hear R.kind.allowed self.old.entries (map (cell_of R.kind) cells.old) line.now) }
+        ensures { outcome self.new.entries cells.new delta.new result ≡
+            in_memory R.kind self.old.entries cells.old
+            (told R.kind self.old.entries cells.old line.now) }
     {
-        let read = read_line(line);
-        // not before each line: `follow` would take a tenth longer
-        if read.is_err() {
-            blank(delta);
+        match read_line(line) {
+            Ok(line) => self.obey(line.says, cells, delta),
+            Err(refusal) => {
+                blank(delta);
+                Err(refusal)
+            }
         }
-        self.obey(read?.says, cells, delta)
     }
 
-    /// Hears a line, given without its end. The changes then hold what an update brought, otherwise twelve same.
+    /// Hears a line of at most 1,172 bytes, given without its end, with the taps' 96 cells and
+    /// twelve changes.
+    ///
+    /// `SUBOK` opens the first entry with its ID, sets its field count and makes its row null.
+    /// `UNSUB` makes the ID of the first entry with its ID 0, closes it and makes its row null.
+    /// `U` changes the row of the first open entry with its ID. Each leaves every other entry and
+    /// row as it was, and where no entry fits, the answer is `Passed` and the values are not read.
+    /// All other lines are `Taken` and change nothing.
+    ///
+    /// After an update that was taken the changes hold its delta, with same behind the fields, and
+    /// every cell of its row holds the record of its meaning; after any other line the changes are
+    /// twelve same.
+    ///
+    /// A line that is refused changes no entry and no cell. Its refusals are 16, 5, 6, then the
+    /// arguments' 4 and 3 from left to right, and of the value list 3, 4, 7 and 8, each with its
+    /// offset in the line. Before all others comes 1, where the lent memory is not 96 cells and
+    /// twelve changes: then nothing is touched.
     pub fn hear<R: Value>(
         &mut self,
         line: &[u8],
         cells: &mut [Cell<R>],
         delta: &mut [Change<R>],
     ) -> Result<Heard, Refusal>
-        ensures entries { self.new.entries ≡ (heard R.kind self.old.entries cells.old delta.old line.now).entries }
-        ensures cells { cells.new ≡ (heard R.kind self.old.entries cells.old delta.old line.now).cells }
-        ensures changes { delta.new ≡ (heard R.kind self.old.entries cells.old delta.old line.now).delta }
-        ensures answer { result ≡ (heard R.kind self.old.entries cells.old delta.old line.now).answer }
-        ensures means { fitting R.kind cells.old delta.old ≡ true → MeansHeard R.kind self.old.entries cells.old line.now (outcome self.new.entries cells.new delta.new result) }
+        ensures entries { self.new.entries ≡
+            (heard R.kind self.old.entries cells.old delta.old line.now).entries }
+        ensures cells { cells.new ≡
+            (heard R.kind self.old.entries cells.old delta.old line.now).cells }
+        ensures changes { delta.new ≡
+            (heard R.kind self.old.entries cells.old delta.old line.now).delta }
+        ensures answer { result ≡
+            (heard R.kind self.old.entries cells.old delta.old line.now).answer }
+        ensures means { fitting R.kind cells.old delta.old ≡ true →
+            MeansHeard R.kind self.old.entries cells.old line.now
+            (outcome self.new.entries cells.new delta.new result) }
         ensures canonical { StaysCanonical R.kind cells.old cells.new }
-        ensures refused { OnErr result ((self.new.entries ≡ self.old.entries) × (cells.new ≡ cells.old)) }
+        ensures refused { OnErr result
+            ((self.new.entries ≡ self.old.entries) × (cells.new ≡ cells.old)) }
+        ensures unfit { fitting R.kind cells.old delta.old ≡ false →
+            (by_numbers result ≡ refused 1 0) × (delta.new ≡ delta.old) }
     {
         if cells.len() != CELL_LIMIT || delta.len() != FIELD_LIMIT {
             return Err(Refusal::MEMORY);

@@ -18,10 +18,13 @@ pub(crate) fn clear_row<R: Value>(cells: &mut [Cell<R>], i: usize)
 
 // Changes a tap's row by a delta.
 pub(crate) fn update_row<R: Value>(cells: &mut [Cell<R>], i: usize, delta: &[Change<R>])
-    requires { (i < tap_limit) × ((length cells.old ≡ cell_limit) × (length delta.now ≡ field_limit)) }
-    ensures { cells.new ≡ put_row R.kind i (changed (map (cell_of R.kind) (row_at i cells.old)) (map (change_of R.kind) delta.now)) cells.old }
+    requires { (i < tap_limit) × (length cells.old ≡ cell_limit)
+        × (length delta.now ≡ field_limit) }
+    ensures { cells.new ≡ put_row R.kind i
+        (changed (map (cell_of R.kind) (row_at i cells.old)) (map (change_of R.kind) delta.now))
+        cells.old }
 {
     let at = FIELD_LIMIT * i;
-    // both have the places of a row
+    // never refused: both have the places of a row
     let _ = change_row(&mut cells[at..at + FIELD_LIMIT], delta);
 }

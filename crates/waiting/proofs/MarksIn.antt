@@ -1,26 +1,28 @@
 -- What waits by rows of memory, and what becomes of it when a row is replaced.
 use Rattle.std.proofs.Common.{◌≡◌, ℕ, zero, suc, ◌+◌, ◌-◌, ◌*◌, ◌<◌, ◌≤◌, Bool, true, false, not, List, [], ◌∷◌, ◌++◌, map, length, take, drop, replicate, cond, Ok, Err, subst, sym, refl, ap, ◌∙◌, append_assoc, arith}
-use Rattle.std.specs.Prelude.{flat_map, nat_lt, nat_le, ◌==◌, ◌&&◌}
+use Rattle.std.specs.Prelude.{flat_map, nat_lt, nat_le}
 use Rattle.std.specs.List.{list_all, range_with_len}
-use Rattle.std.proofs.lemmas.Bool.{and_from, and_parts, cond-true, cond-false, eq-eqb, lt-ltb, le-ltb, leb-true, ltb-true}
+use Rattle.std.proofs.lemmas.Bool.{and_from, and_parts, cond-true, cond-false, eq-eqb, lt-ltb, le-ltb, le-leb, leb-true, ltb-true}
 use Rattle.std.proofs.Math.Nat.{add-zero}
 use Rattle.std.proofs.lemmas.List.{append-nil, length-map, length-take-le, map-append, nil_from_length, take-append-drop, take-append-le, drop-append-le, take_at, drop_at, drop-drop}
-use Rattle.row.specs.Canonical.{canonical-map, canonical-canonical}
+use Rattle.row.specs.Canonical.{canonical-map}
 use Rattle.row.specs.Faults.{refusal}
 use Rattle.row.specs.declared.fault.Fault.TheVariants.{Absent}
 use Rattle.row.specs.Kinds.{Kind, Lawful}
 use Rattle.row.specs.Limits.{field_limit, tap_limit, cell_limit}
-use Rattle.row.specs.Records.{canonical, change_of, change_record, later}
+use Rattle.row.specs.Records.{canonical, change_of, change_record, joined_changes}
 use Rattle.row.specs.Rows as rows
 use Rattle.row.specs.Rows.{same, over, join, all_same, row_at, with_row}
 use Rattle.row.specs.Taps.{is_tap, tap_numbered}
 use Rattle.row.specs.declared.change.Change.{Change}
 use Rattle.waiting.specs.Lists.{Pair, pair, is_for, joined, without, pair_of_changes}
-use Rattle.waiting.specs.ListsLaws.{length-over, filter_keep, filter_skip, join-onto, join-changing, blank-from, joined-other, pair_cases, flat_map-range}
-use Rattle.waiting.specs.Marks.{rising, marked, marks, marks_in, marks_of}
+use Rattle.waiting.specs.ListsLaws.{filter_keep, filter_skip, join-onto, join-changing, blank-from, joined-other, pair_cases, flat_map-range}
+use Rattle.waiting.specs.Marks.{rising, marked, marks_in, marks_of, tap_rows}
 use Rattle.waiting.specs.MarksLaws.{joined-above, joined-own, not_for, others_above, rising-less, rising-parts, marks-rising, length-rest, length-first}
-use Rattle.waiting.specs.Policies.{Kept, first, put_list}
-use Rattle.waiting.proofs.Canonical.{with_row-own, length-row_at, length-with_row, canonical-with_row, joined-means}
+use Rattle.waiting.specs.Layouts.{Exact}
+use Rattle.waiting.specs.Policies.{first}
+use Rattle.waiting.specs.Rows.{has_row}
+use Rattle.waiting.proofs.Canonical.{with_row-own, length-row_at, length-with_row, length-joined_changes, canonical-with_row, canonical-joined, joined-means}
 
 -- what waits for lower taps in front
 abbrev below : ℕ → List Pair → Bool
@@ -204,11 +206,11 @@ module _ {R : Type 0} (k : Kind R) where
   marks_all i cs h = let e : tap_limit - i ≡ 0 = omega arith in ap (λ n. marks_in k n (1 + i) (drop (field_limit * i) cs)) e
 
   -- the kind keeps the records of what each change means, and no more is asked
-  marks-kept : (cs : List (Change R)) → length cs ≡ cell_limit → cs ≡ map (canonical k) cs → Kept k marks cs (marks_of k cs)
-  marks-kept cs long e = e ∙ canonical-map k cs ∙ ap (map (change_record k)) (sym (marks-layout tap_limit 1 cs long))
+  marks-exact : (cs : List (Change R)) → length cs ≡ cell_limit → cs ≡ map (canonical k) cs → Exact k tap_rows cs (marks_of k cs)
+  marks-exact cs long e = e ∙ canonical-map k cs ∙ ap (map (change_record k)) (sym (marks-layout tap_limit 1 cs long))
 
-  pub kept-canonical : (cs : List (Change R)) → length cs ≡ cell_limit → Kept k marks cs (marks_of k cs) → cs ≡ map (canonical k) cs
-  kept-canonical cs long h = h ∙ ap (map (change_record k)) (marks-layout tap_limit 1 cs long) ∙ sym (canonical-map k cs)
+  pub exact-canonical : (cs : List (Change R)) → length cs ≡ cell_limit → Exact k tap_rows cs (marks_of k cs) → cs ≡ map (canonical k) cs
+  exact-canonical cs long h = h ∙ ap (map (change_record k)) (marks-layout tap_limit 1 cs long) ∙ sym (canonical-map k cs)
 
   -- the pair that is shown
   pub shown : (cs : List (Change R)) (i t : ℕ) (l : List Pair) → Ok t ≡ tap_numbered (i + 1) → first l ≡ Ok (pair (i + 1) (means (row_at i cs))) → (row : List (Change R)) → row ≡ row_at i cs → Ok (pair t (means row)) ≡ first l
@@ -217,10 +219,10 @@ module _ {R : Type 0} (k : Kind R) where
 
   -- the rows of all taps after another row is put
   module _ (cs new row : List (Change R)) (i : ℕ) (long : length cs ≡ cell_limit) (inside : i < tap_limit) (put : new ≡ with_row i row cs) (whole : length row ≡ field_limit) where
-    row-kept : row ≡ map (canonical k) row → Kept k marks cs (marks_of k cs) → Kept k marks new (marks_of k new)
-    row-kept e h =
-        subst (λ x. Kept k marks x (marks_of k x)) (sym put)
-        (marks-kept (with_row i row cs) (length-with_row i cs row (omega arith) whole ∙ long) (canonical-with_row k i row cs e (kept-canonical cs long h)))
+    row-exact : row ≡ map (canonical k) row → Exact k tap_rows cs (marks_of k cs) → Exact k tap_rows new (marks_of k new)
+    row-exact e h =
+        subst (λ x. Exact k tap_rows x (marks_of k x)) (sym put)
+        (marks-exact (with_row i row cs) (length-with_row i cs row (omega arith) whole ∙ long) (canonical-with_row k i row cs e (exact-canonical cs long h)))
 
     row-cleared : all_same (means row) ≡ true → marks_of k new ≡ without (1 + i) (marks_of k cs)
     row-cleared e = ap (marks_of k) put ∙ marks-cleared tap_limit 1 i cs inside long row whole e
@@ -230,9 +232,12 @@ module _ {R : Type 0} (k : Kind R) where
 
   module _ (cs new : List (Change R)) (i : ℕ) (long : length cs ≡ cell_limit) (inside : i < tap_limit) where
     -- after `clear_row`
-    module _ (put : new ≡ with_row i (replicate field_limit (change_record k same)) cs) where
-      pub cleared-kept : Kept k marks cs (marks_of k cs) → Kept k marks new (marks_of k new)
-      cleared-kept = row-kept cs new (replicate field_limit (change_record k same)) i long inside put refl refl
+    module _ (cleared_if : new ≡ cond (has_row i cs) (with_row i (replicate field_limit (change_record k same)) cs) cs) where
+      put : new ≡ with_row i (replicate field_limit (change_record k same)) cs
+      put = cleared_if ∙ cond-true (has_row i cs) _ cs (le-leb (field_limit * i + field_limit) (length cs) (omega arith))
+
+      pub cleared-exact : Exact k tap_rows cs (marks_of k cs) → Exact k tap_rows new (marks_of k new)
+      cleared-exact = row-exact cs new (replicate field_limit (change_record k same)) i long inside put refl refl
 
       pub cleared : (t : ℕ) → 1 + i ≡ t → marks_of k new ≡ without t (marks_of k cs)
       cleared t e = row-cleared cs new (replicate field_limit (change_record k same)) i long inside put refl refl ∙ ap (λ u. without u (marks_of k cs)) e
@@ -243,19 +248,14 @@ module _ {R : Type 0} (k : Kind R) where
           ∙ first-removed 0 (i + 1) (means (row_at i cs)) (marks_of k cs) (marks-rising k tap_limit 0 1 cs (omega arith)) f
 
     -- after `join_row`
-    module _ (law : Lawful k) (delta : List (Change R)) (whole : length delta ≡ field_limit) (put : new ≡ with_row i (map (canonical k) (over later (row_at i cs) delta)) cs) where
-      long-joined : length (map (canonical k) (over later (row_at i cs) delta)) ≡ field_limit
-      long-joined =
-          length-map (over later (row_at i cs) delta) (canonical k)
-          ∙ length-over later (row_at i cs) delta
-          ∙ length-row_at i cs (omega arith)
+    module _ (law : Lawful k) (delta : List (Change R)) (whole : length delta ≡ field_limit) (put : new ≡ with_row i (joined_changes k (row_at i cs) delta) cs) where
+      long-joined : length (joined_changes k (row_at i cs) delta) ≡ field_limit
+      long-joined = length-joined_changes k (row_at i cs) delta ∙ length-row_at i cs (omega arith)
 
-      pub joined-kept : Kept k marks cs (marks_of k cs) → Kept k marks new (marks_of k new)
-      joined-kept = row-kept cs new (map (canonical k) (over later (row_at i cs) delta)) i long inside put long-joined (canonical-canonical k law (over later (row_at i cs) delta))
+      pub joined-exact : Exact k tap_rows cs (marks_of k cs) → Exact k tap_rows new (marks_of k new)
+      joined-exact = row-exact cs new (joined_changes k (row_at i cs) delta) i long inside put long-joined (canonical-joined k law (row_at i cs) delta)
 
-      pub joined-list : (t : ℕ) → 1 + i ≡ t → marks_of k new ≡ put_list marks (marks_of k cs) t (means delta)
+      pub joined-list : (t : ℕ) → 1 + i ≡ t → marks_of k new ≡ marked (marks_of k cs) t (means delta)
       joined-list t e =
-          let fits : length (means delta) ≡ field_limit = length-map delta (change_of k) ∙ whole in
-          row-joined cs new (map (canonical k) (over later (row_at i cs) delta)) i long inside put long-joined (means delta) fits (joined-means k law (row_at i cs) delta)
+          row-joined cs new (joined_changes k (row_at i cs) delta) i long inside put long-joined (means delta) (length-map delta (change_of k) ∙ whole) (joined-means k law (row_at i cs) delta)
           ∙ ap (λ u. marked (marks_of k cs) u (means delta)) e
-          ∙ sym (cond-true (length (means delta) == field_limit && true) _ _ (and_from _ _ (eq-eqb (length (means delta)) field_limit fits) refl))

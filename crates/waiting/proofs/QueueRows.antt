@@ -1,25 +1,25 @@
 -- The pairs of a queue, by the rows of its memory.
-use Rattle.std.proofs.Common.{◌≡◌, ℕ, zero, suc, ◌+◌, ◌-◌, ◌*◌, ◌<◌, ◌≤◌, Bool, true, false, not, ◌&&◌, nat_le, get_or, set, slice_set, List, [], ◌∷◌, ◌++◌, map, length, take, drop, replicate, Ok, sym, refl, ap, ◌∙◌, take-add, arith, append_assoc, not-suc-le-zero}
+use Rattle.std.proofs.Common.{◌≡◌, ℕ, zero, suc, ◌+◌, ◌-◌, ◌*◌, ◌<◌, ◌≤◌, Bool, true, false, not, ◌&&◌, nat_le, nat_lt, get_or, set, slice_set, List, [], ◌∷◌, ◌++◌, map, length, take, drop, replicate, Ok, sym, refl, ap, ◌∙◌, take-add, arith, append_assoc, not-suc-le-zero}
 use Rattle.std.specs.List.{list_all, remove}
-use Rattle.std.proofs.lemmas.Bool.{and_parts, and_from, leb-true}
+use Rattle.std.proofs.lemmas.Bool.{and_parts, and_from, leb-true, ltb-true}
 use Rattle.std.proofs.lemmas.List.Folds.{list_all-append}
-use Rattle.std.proofs.lemmas.List.{length-append, length-drop, length-take-le, map-append, replicate-append-replicate, length-replicate, take-replicate, take_at, drop_at, drop-drop, take-append-le, drop-append-le, drop-replicate, take-map, drop-map, append-nil, take-append-drop, drop_more, length-map, take_more_set, get_or-take}
+use Rattle.std.proofs.lemmas.List.{length-append, length-drop, length-take-le, map-append, replicate-append-replicate, length-replicate, take-replicate, take_at, drop_at, drop-drop, take-append-le, drop-append-le, drop-replicate, take-map, drop-map, append-nil, take-append-drop, drop_more, take_more_set, get_or-take}
 use Rattle.std.proofs.lemmas.Grind.{flat_map-append}
 use Rattle.std.proofs.lemmas.List.Edits.{length-remove}
-use Rattle.row.specs.Kinds.{Kind, Lawful}
+use Rattle.row.specs.Kinds.{Kind}
 use Rattle.row.specs.Limits.{field_limit}
-use Rattle.row.specs.Records.{canonical, change_of, change_record}
+use Rattle.row.specs.Records.{change_of, change_record}
 use Rattle.row.specs.Rows as rows
 use Rattle.row.specs.Rows.{becomes, value, same, all_same, with_row}
 use Rattle.row.specs.declared.change.Change.{Change}
 use Rattle.waiting.specs.Limits.{pair_limit}
 use Rattle.waiting.specs.Lists.{Pair, pair, may_wait, deltas}
 use Rattle.waiting.specs.ListsLaws.{waits, length-deltas}
-use Rattle.waiting.specs.Policies.{Kept, drop_answer}
-use Rattle.waiting.specs.Queues.{pairs_in, queue, queue_of}
+use Rattle.waiting.specs.Layouts.{Exact}
+use Rattle.waiting.specs.Policies.{drop_answer}
+use Rattle.waiting.specs.Queues.{pairs_in, queue, queue_rows, rows_of}
 use Rattle.waiting.specs.Rows.{rows_wait}
 use Rattle.waiting.proofs.Canonical.{map-with_row}
-use Rattle.row.specs.Canonical.{canonical-map, means-canonical}
 
 module _ {X : Type 0} (xs : List X) where
   next : (i : ℕ) → field_limit * suc i ≡ field_limit + field_limit * i
@@ -46,6 +46,10 @@ module _ {R : Type 0} (k : Kind R) where
   -- as many pairs as taps of a queue
   pub length-taken : (len : ℕ) (taps : List ℕ) (cs : List (Change R)) → len ≤ length taps → length (pairs_in k (take len taps) cs) ≡ len
   length-taken len taps cs h = length-pairs (take len taps) cs ∙ length-take-le len taps h
+
+  -- a queue that takes a delta has a row to spare
+  pub room : (len limit : ℕ) (taps : List ℕ) (cs : List (Change R)) → len ≤ length taps → nat_lt (length (pairs_in k (take len taps) cs)) limit ≡ true → len < limit
+  room len limit taps cs h e = omega (arith, ltb-true _ limit e, length-taken len taps cs h)
 
   tap-at : (ts : List ℕ) (cs : List (Change R)) (i : ℕ) (d : Pair) → i < length ts → (get_or (pairs_in k ts cs) i d).tap ≡ get_or ts i 0
   tap-at [] cs i d h = absurd (not-suc-le-zero h)
@@ -110,17 +114,13 @@ queue-removed k (suc n) i x taps turned cs moved more h few inside ts ms =
     ∙ ap (λ l. pairs_in k l (take (field_limit * i) cs ++ (drop (field_limit * i + field_limit) cs ++ more))) (taps-removed taps i n x (omega arith) few)
     ∙ pairs-removed k (take (suc n) taps) i cs more (omega (arith, long)) (omega (arith, long))
 
-module _ {R : Type 0} (k : Kind R) (law : Lawful k) where
-  -- the pairs of a queue behind a push, by what its taps and its memory then are
-  pub queue-pushed : (len t : ℕ) (taps : List ℕ) (cs delta moved : List (Change R)) → len < length taps → field_limit * len + field_limit ≤ length cs → length delta ≡ field_limit → moved ≡ with_row len (map (canonical k) delta) cs → pairs_in k (take (len + 1) (slice_set taps len t)) moved ≡ pairs_in k (take len taps) cs ++ pair t (map (change_of k) delta) ∷ []
-  queue-pushed len t taps cs delta moved h inside whole ms =
-      let row = map (canonical k) delta in
-      let long = length-take-le len taps (omega arith) in
-      let wide : length row ≡ field_limit = length-map delta (canonical k) ∙ whole in
-      (λ j. pairs_in k (take_more_set taps len t h j) (ms j))
-      ∙ ap (λ n. pairs_in k (take len taps ++ t ∷ []) (with_row n row cs)) (sym long)
-      ∙ pairs-pushed k (take len taps) t row cs wide (omega (arith, long))
-      ∙ ap (λ d. pairs_in k (take len taps) cs ++ pair t d ∷ []) (means-canonical k law delta)
+-- the pairs of a queue behind a push, by what its taps and its memory then are
+pub queue-pushed : {R : Type 0} (k : Kind R) (len t : ℕ) (taps : List ℕ) (cs row moved : List (Change R)) → len < length taps → field_limit * len + field_limit ≤ length cs → length row ≡ field_limit → moved ≡ with_row len row cs → pairs_in k (take (len + 1) (slice_set taps len t)) moved ≡ pairs_in k (take len taps) cs ++ pair t (map (change_of k) row) ∷ []
+queue-pushed k len t taps cs row moved h inside wide ms =
+    let long = length-take-le len taps (omega arith) in
+    (λ j. pairs_in k (take_more_set taps len t h j) (ms j))
+    ∙ ap (λ n. pairs_in k (take len taps ++ t ∷ []) (with_row n row cs)) (sym long)
+    ∙ pairs-pushed k (take len taps) t row cs wide (omega (arith, long))
 
 map-ends : {X Y : Type 0} (f : X → Y) (i m : ℕ) (xs ys : List X) → take i (map f xs) ++ (drop m (map f xs) ++ map f ys) ≡ map f (take i xs ++ (drop m xs ++ ys))
 map-ends f i m xs ys =
@@ -132,7 +132,7 @@ module _ (limit : ℕ) (l : List Pair) (waiting : list_all may_wait l ≡ true) 
   abbrev rest : List rows.Change
   rest = replicate (field_limit * (limit - length l)) same
 
-  pub lays-pushed : (t : ℕ) (d : List rows.Change) → length d ≡ field_limit → length l < limit → with_row (length l) d ((queue_of limit).layout l) ≡ (queue_of limit).layout (l ++ pair t d ∷ [])
+  pub lays-pushed : (t : ℕ) (d : List rows.Change) → length d ≡ field_limit → length l < limit → with_row (length l) d (rows_of limit l) ≡ rows_of limit (l ++ pair t d ∷ [])
   lays-pushed t d whole room =
       let at = field_limit * length l in
       let before : take at (deltas l ++ rest) ≡ deltas l = take_at (deltas l) rest at (length-deltas l waiting) in
@@ -145,7 +145,7 @@ module _ (limit : ℕ) (l : List Pair) (waiting : list_all may_wait l ≡ true) 
       ∙ sym (append_assoc (deltas l) d _)
       ∙ ap (λ ds. ds ++ replicate (field_limit * (limit - length (l ++ pair t d ∷ []))) same) (ap (λ ds. deltas l ++ ds) (sym (append-nil d)) ∙ sym (flat_map-append (λ p. p.delta) l (pair t d ∷ [])))
 
-  pub lays-removed : (i : ℕ) → i < length l → length l ≤ limit → take (field_limit * i) ((queue_of limit).layout l) ++ (drop (field_limit * i + field_limit) ((queue_of limit).layout l) ++ replicate field_limit same) ≡ (queue_of limit).layout (remove l i)
+  pub lays-removed : (i : ℕ) → i < length l → length l ≤ limit → take (field_limit * i) (rows_of limit l) ++ (drop (field_limit * i + field_limit) (rows_of limit l) ++ replicate field_limit same) ≡ rows_of limit (remove l i)
   lays-removed i h few =
       let long = length-deltas l waiting in
       let at = field_limit * i in
@@ -176,19 +176,19 @@ list_all-moved p xs i d h e =
     list_all-append p (remove xs i) (get_or xs i d ∷ [])
     ∙ and_from _ _ (list_all-removed p xs i e) (and_from _ _ (and_parts _ _ (sym (ap (list_all p) (drop_more xs i d h)) ∙ (list_all-parts p i xs e).1)).0 refl)
 
-module _ {R : Type 0} (k : Kind R) (cs : List (Change R)) (l : List Pair) (listed : queue.holds l ≡ true) (old : Kept k queue cs l) where
-  pub kept-removed : (i : ℕ) → i < length l → Kept k queue (take (field_limit * i) cs ++ (drop (field_limit * i + field_limit) cs ++ replicate field_limit (change_record k same))) (remove l i)
-  kept-removed i h =
+module _ {R : Type 0} (k : Kind R) (cs : List (Change R)) (l : List Pair) (listed : queue.holds l ≡ true) (old : Exact k queue_rows cs l) where
+  pub exact-removed : (i : ℕ) → i < length l → Exact k queue_rows (take (field_limit * i) cs ++ (drop (field_limit * i + field_limit) cs ++ replicate field_limit (change_record k same))) (remove l i)
+  exact-removed i h =
       let at = field_limit * i in
       let parts = and_parts (nat_le (length l) pair_limit) _ listed in
       ap (λ m. take at m ++ (drop (at + field_limit) m ++ map (change_record k) (replicate field_limit same))) old
-      ∙ map-ends (change_record k) at (at + field_limit) (queue.layout l) (replicate field_limit same)
+      ∙ map-ends (change_record k) at (at + field_limit) (queue_rows l) (replicate field_limit same)
       ∙ ap (map (change_record k)) (lays-removed pair_limit l parts.1 i h (leb-true (length l) pair_limit parts.0))
 
-  pub kept-pushed : (t : ℕ) (d : List rows.Change) → length l < pair_limit → length d ≡ field_limit → Kept k queue (with_row (length l) (map (change_record k) d) cs) (l ++ pair t d ∷ [])
-  kept-pushed t d room whole =
+  pub exact-pushed : (t : ℕ) (d : List rows.Change) → length l < pair_limit → length d ≡ field_limit → Exact k queue_rows (with_row (length l) (map (change_record k) d) cs) (l ++ pair t d ∷ [])
+  exact-pushed t d room whole =
       ap (λ m. with_row (length l) (map (change_record k) d) m) old
-      ∙ sym (map-with_row (change_record k) (length l) d (queue.layout l))
+      ∙ sym (map-with_row (change_record k) (length l) d (queue_rows l))
       ∙ ap (map (change_record k)) (lays-pushed pair_limit l (and_parts (nat_le (length l) pair_limit) _ listed).1 t d whole room)
 
 module _ {R : Type 0} (k : Kind R) where
@@ -221,21 +221,6 @@ module _ {R : Type 0} (k : Kind R) where
       ∙ ap (λ ts. list_all (λ p. not (all_same p.delta)) (pairs_in k ts (take (field_limit * i) cs ++ (drop (field_limit * i + field_limit) cs ++ more)))) fewer
       ∙ ap (list_all (λ p. not (all_same p.delta))) (pairs-removed k zeros i cs more (omega (arith, long)) (omega (arith, long)))
       ∙ list_all-removed (λ p. not (all_same p.delta)) (pairs_in k zeros cs) i (sym (rows-are n cs) ∙ before)
-
-  -- a queue that is not empty shows its first row
-  pub shows-first : (ts : List ℕ) (cs : List (Change R)) → 1 ≤ length ts → field_limit ≤ length cs → Kept k queue cs (pairs_in k ts cs) → take field_limit cs ≡ map (canonical k) (take field_limit cs)
-  shows-first [] cs some inside old = absurd (not-suc-le-zero some)
-  shows-first (t ∷ ts) cs some inside old =
-      let row = take field_limit cs in
-      let d = map (change_of k) row in
-      let wide : length d ≡ field_limit = length-map row (change_of k) ∙ length-take-le field_limit cs inside in
-      let l = pairs_in k (t ∷ ts) cs in
-      let layout = append_assoc d (deltas (pairs_in k ts (drop field_limit cs))) (replicate (field_limit * (pair_limit - length l)) same) in
-      ap (take field_limit) old
-      ∙ take-map (change_record k) field_limit (queue.layout l)
-      ∙ ap (λ ds. map (change_record k) (take field_limit ds)) layout
-      ∙ ap (map (change_record k)) (take_at d _ field_limit wide)
-      ∙ sym (canonical-map k row)
 
   pub drops-first : (ts : List ℕ) (cs : List (Change R)) → 1 ≤ length ts → drop_answer (pairs_in k ts cs) ≡ Ok tt
   drops-first [] cs some = absurd (not-suc-le-zero some)

@@ -2,7 +2,10 @@ pub mod Limits
 pub mod Lists
 pub mod Rows
 pub mod ListsLaws
+pub mod Layouts
 pub mod Policies
+pub mod Joins
+pub mod JoinsLaws
 pub mod Pairs
 pub mod Queues
 pub mod QueueLaws

@@ -1,8 +1,7 @@
 -- What waits to be sent: pairs of a tap and a delta, in sending order.
-use Rattle.std.specs.Prelude.{ℕ, Bool, not, ◌&&◌, List, [], ◌∷◌, map, length, cond, fold, filter, flat_map, ◌==◌}
-use Rattle.std.specs.List.{count_by}
+use Rattle.std.specs.Prelude.{ℕ, Bool, true, not, ◌&&◌, List, [], ◌∷◌, map, length, cond, fold, filter, flat_map, ◌==◌}
 use Rattle.row.specs.Limits.{field_limit}
-use Rattle.row.specs.Rows.{Change, join, blank, is_same, all_same}
+use Rattle.row.specs.Rows.{Cell, Change, null, value, same, becomes, join, blank, all_same}
 use Rattle.row.specs.Taps.{is_tap}
 
 pub record Pair : Type 0 where
@@ -19,9 +18,19 @@ is_for t p = p.tap == t
 abbrev pub may_wait : Pair → Bool
 may_wait p = is_tap p.tap && (length p.delta == field_limit && not (all_same p.delta))
 
--- how many of the changes are not same
-abbrev pub changing : List Change → ℕ
-changing = count_by (λ c. not (is_same c))
+-- a cell that is null, or whose value's text a kind allows
+abbrev pub cell_allowed : (List ℕ → Bool) → Cell → Bool
+cell_allowed allowed null = true
+cell_allowed allowed (value t) = allowed t
+
+-- a change that makes no cell hold a text beyond those allowed
+abbrev pub change_allowed : (List ℕ → Bool) → Change → Bool
+change_allowed allowed same = true
+change_allowed allowed (becomes c) = cell_allowed allowed c
+
+-- a delta of up to twelve changes in all the places of a row: same behind its own
+abbrev pub widened : List Change → List Change
+widened d = join blank d
 
 -- the deltas that wait for a tap, in order
 abbrev pub waiting_for : ℕ → List Pair → List (List Change)

@@ -1,14 +1,14 @@
 -- What joining and listing keep.
-use Rattle.std.specs.Prelude.{◌≡◌, ℕ, zero, suc, ◌+◌, ◌*◌, ◌≤◌, Bool, true, false, not, ◌&&◌, List, [], ◌∷◌, ◌++◌, map, length, fold, filter, flat_map, ◌==◌}
+use Rattle.std.specs.Prelude.{◌≡◌, ℕ, zero, suc, ◌+◌, ◌*◌, ◌≤◌, Bool, true, false, not, ◌&&◌, List, [], ◌∷◌, ◌++◌, map, length, drop, replicate, fold, filter, flat_map, ◌==◌}
 use Rattle.std.proofs.Common.{sym, refl, ap, ◌∙◌, arith}
 use Rattle.std.specs.List.{list_all, range_with_len}
 use Rattle.std.proofs.lemmas.Bool.{and_from, and_parts, cond_both, cond-true, cond-false, eq-eqb, eqb-true, not-true, not_from_false, false≢true}
 use Rattle.std.proofs.lemmas.List.{length-append}
-use Rattle.std.proofs.lemmas.List.Sums.{sum_by-append}
+use Rattle.std.proofs.lemmas.List.Folds.{list_all-append}
 use Rattle.row.specs.Limits.{field_limit}
 use Rattle.row.specs.Rows.{Change, same, becomes, over, join_change, join, blank, all_same}
 use Rattle.row.specs.Taps.{is_tap}
-use Rattle.waiting.specs.Lists.{Pair, pair, is_for, may_wait, joined, deltas, waiting_for, changing, pair_of_changes}
+use Rattle.waiting.specs.Lists.{Pair, pair, is_for, may_wait, joined, deltas, widened, waiting_for, pair_of_changes}
 
 pub length-over : {X Y : Type 0} (f : X → Y → X) (xs : List X) (ys : List Y) → length (over f xs ys) ≡ length xs
 length-over f [] ys = refl
@@ -42,6 +42,21 @@ join-onto (becomes c ∷ cs) (d ∷ ds) e h = absurd (false≢true e)
 
 pub join-blank : (d : List Change) → length d ≡ field_limit → join blank d ≡ d
 join-blank d h = join-onto blank d refl (sym h)
+
+-- a delta in all the places of a row is its own changes, with same behind them
+pub widened-behind : (d : List Change) → length d ≤ field_limit → widened d ≡ d ++ drop (length d) blank
+widened-behind = onto field_limit
+  where
+    onto : (n : ℕ) (d : List Change) → length d ≤ n → join (replicate n same) d ≡ d ++ drop (length d) (replicate n same)
+    onto zero [] h = refl
+    onto zero (d ∷ ds) h = absurd (omega arith)
+    onto (suc n) [] h = refl
+    onto (suc n) (same ∷ ds) h = ap (λ l. same ∷ l) (onto n ds (omega arith))
+    onto (suc n) (becomes d ∷ ds) h = ap (λ l. becomes d ∷ l) (onto n ds (omega arith))
+
+-- of twelve changes it is they themselves
+pub widened-whole : (d : List Change) → length d ≡ field_limit → widened d ≡ d
+widened-whole = join-blank
 
 pub blank-from : (d : List Change) → length d ≡ field_limit → all_same d ≡ true → blank ≡ d
 blank-from d h e = sym (join-same blank d e) ∙ join-blank d h
@@ -111,9 +126,23 @@ length-deltas (p ∷ l) e =
     let w = waits p l e in
     omega (arith, length-append p.delta (deltas l), w.long, length-deltas l w.rest)
 
-pub changing-append : (c d : List Change) → changing (c ++ d) ≡ changing c + changing d
-changing-append c d = sum_by-append _ c d
-
 pub flat_map-range : {X : Type 0} (f g : ℕ → List X) (a n : ℕ) → ((i : ℕ) → a ≤ i → f i ≡ g i) → flat_map f (range_with_len a n) ≡ flat_map g (range_with_len a n)
 flat_map-range f g a zero e = refl
 flat_map-range f g a (suc n) e = λ i. e a (omega arith) i ++ flat_map-range f g (a + 1) n (λ j h. e j (omega arith)) i
+
+-- a test of each change that waits
+module _ (q : Change → Bool) where
+  pub all-deltas : (p : Pair) (l : List Pair) → list_all q p.delta ≡ true → list_all q (deltas l) ≡ true → list_all q (deltas (p ∷ l)) ≡ true
+  all-deltas p l e f = list_all-append q p.delta (deltas l) ∙ and_from _ _ e f
+
+  pub parts-deltas : (p : Pair) (l : List Pair) → list_all q (deltas (p ∷ l)) ≡ true → (list_all q p.delta ≡ true) × (list_all q (deltas l) ≡ true)
+  parts-deltas p l e = and_parts _ _ (sym (list_all-append q p.delta (deltas l)) ∙ e)
+
+  pub all-join : (c d : List Change) → list_all q c ≡ true → list_all q d ≡ true → list_all q (join c d) ≡ true
+  all-join [] d e f = refl
+  all-join (c ∷ cs) [] e f = e
+  all-join (c ∷ cs) (same ∷ ds) e f = let h = and_parts (q c) (list_all q cs) e in and_from _ _ h.0 (all-join cs ds h.1 (and_parts (q same) (list_all q ds) f).1)
+  all-join (c ∷ cs) (becomes d ∷ ds) e f = let h = and_parts (q (becomes d)) (list_all q ds) f in and_from _ _ h.0 (all-join cs ds (and_parts (q c) (list_all q cs) e).1 h.1)
+
+  pub all-pair : (t : ℕ) (d : List Change) (l : List Pair) → list_all q d ≡ true → list_all q (deltas l) ≡ true → list_all q (deltas (pair_of_changes t d ++ l)) ≡ true
+  all-pair t d l e f = pair_cases t d l (λ x. list_all q (deltas x) ≡ true) (λ _. f) (λ _. all-deltas (pair t d) l e f)

@@ -2,12 +2,12 @@
 use Rattle.std.specs.Prelude.{ℕ, zero, suc, ◌+◌, Bool, true, cond, ◌&&◌, List, [], ◌∷◌, ◌++◌, map, take, drop, flat_map, nat_lt}
 use Rattle.std.specs.List.{list_all, range_with_len}
 use Rattle.row.specs.Kinds.{Kind}
-use Rattle.row.specs.Limits.{field_limit, tap_limit, cell_limit}
+use Rattle.row.specs.Limits.{field_limit, tap_limit}
 use Rattle.row.specs.Records.{change_of}
 use Rattle.row.specs.Rows.{Change, join}
 use Rattle.row.specs.declared.change.Change as records
 use Rattle.waiting.specs.Lists.{Pair, pair, is_for, may_wait, joined, pair_of_changes}
-use Rattle.waiting.specs.Policies.{Policy}
+use Rattle.waiting.specs.Policies.{Policy, listed}
 
 -- taps above n that rise
 abbrev pub rising : ℕ → List Pair → Bool
@@ -22,12 +22,14 @@ marked (p ∷ l) t d =
 
 abbrev pub marks : Policy
 marks = record {
-  places = cell_limit;
-  takes = λ l t. true;
-  after = marked;
-  holds = λ l. rising 0 l && list_all may_wait l;
-  layout = λ l. flat_map (λ t. joined t l) (range_with_len 1 tap_limit);
+  takes = λ m t. true;
+  after = λ m t d. marked (listed m) t d;
+  holds = λ m. rising 0 (listed m) && list_all may_wait (listed m);
 }
+
+-- their memory: a row for each tap, the join of what waits for it
+abbrev pub tap_rows : List Pair → List Change
+tap_rows l = flat_map (λ t. joined t l) (range_with_len 1 tap_limit)
 
 -- what waits for n taps from t on, by a row of memory for each
 abbrev pub marks_in : {R : Type 0} → Kind R → ℕ → ℕ → List (records.Change R) → List Pair

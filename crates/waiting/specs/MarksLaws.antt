@@ -1,21 +1,19 @@
 -- The laws of marks.
-use Rattle.std.specs.Prelude.{◌≡◌, ◌≢◌, ℕ, zero, suc, ◌+◌, ◌*◌, ◌<◌, ◌≤◌, Bool, true, false, not, cond, List, [], ◌∷◌, ◌++◌, map, length, take, drop, fold, filter, flat_map, sum_by, nat_lt, nat_le}
-use Rattle.std.proofs.Common.{sym, refl, ap, ◌∙◌, ⊎_elim, arith}
-use Rattle.std.proofs.Math.Nat.{zero-add}
-use Rattle.std.specs.List.{list_all, range_with_len}
-use Rattle.std.proofs.lemmas.Bool.{and_from, and_parts, cases_order, cond_both, cond-true, eq-eqb, eqb-true, eqb-false, ne_eqb, lt-ltb, ltb-true, ltb-false, leb-true, le-leb}
-use Rattle.std.proofs.lemmas.List.{append-nil, length-append, length-drop, length-map, length-take-le}
-use Rattle.std.proofs.lemmas.List.Sums.{sum_by-cons}
+use Rattle.std.specs.Prelude.{◌≡◌, ◌≢◌, ℕ, zero, suc, ◌+◌, ◌*◌, ◌<◌, ◌≤◌, Bool, true, false, not, cond, List, [], ◌∷◌, ◌++◌, map, length, take, drop, fold, filter, nat_lt, nat_le}
+use Rattle.std.proofs.Common.{sym, refl, ap, ◌∙◌, arith}
+use Rattle.std.specs.List.{list_all}
+use Rattle.std.proofs.lemmas.Bool.{and_from, and_parts, cond_both, cond-true, eq-eqb, eqb-true, eqb-false, ne_eqb, lt-ltb, ltb-true, ltb-false, leb-true, le-leb}
+use Rattle.std.proofs.lemmas.List.{append-nil, length-drop, length-map, length-take-le}
 use Rattle.row.specs.Kinds.{Kind}
 use Rattle.row.specs.Limits.{field_limit, tap_limit, cell_limit}
 use Rattle.row.specs.Records.{change_of}
 use Rattle.row.specs.declared.change.Change as records
 use Rattle.row.specs.Rows.{Change, join, blank, all_same}
 use Rattle.row.specs.Taps.{is_tap}
-use Rattle.waiting.specs.Lists.{Pair, pair, is_for, may_wait, joined, without, changing, pair_of_changes}
-use Rattle.waiting.specs.ListsLaws.{length-join, length-joined, join-same, join-blank, join-changing, filter_keep, filter_skip, list_all-filter, pair_cases, joined-cons, joined-other, waits, may_wait-from, changing-append, flat_map-range}
+use Rattle.waiting.specs.Lists.{Pair, pair, is_for, may_wait, joined, without, deltas, change_allowed, pair_of_changes}
+use Rattle.waiting.specs.ListsLaws.{length-join, join-same, join-blank, join-changing, filter_keep, filter_skip, list_all-filter, pair_cases, joined-cons, joined-other, waits, may_wait-from, all-deltas, parts-deltas, all-join, all-pair}
 use Rattle.waiting.specs.Marks.{rising, marked, marks, marks_in, marks_of}
-use Rattle.waiting.specs.Policies.{Lawful}
+use Rattle.waiting.specs.Policies.{Lawful, KeepsValues, after_drop}
 
 pub not_for : (t : ℕ) (p : Pair) → p.tap ≢ t → is_for t p ≡ false
 not_for t p ne = ne_eqb p.tap t ne
@@ -129,58 +127,37 @@ module _ (t : ℕ) (d : List Change) (long : length d ≡ field_limit) where
       (λ _. pair_cases t d (p ∷ l) (λ x. list_all may_wait x ≡ true) (λ _. e) (λ o. and_from _ _ (may_wait-from t d known long o) e))
       (λ _. and_from _ _ m.first (stays-waiting known l m.rest))
 
-lays-long : (n m : ℕ) (l : List Pair) → length (flat_map (λ t. joined t l) (range_with_len m n)) ≡ field_limit * n
-lays-long zero m l = refl
-lays-long (suc n) m l =
-    omega (arith, length-append (joined m l) (flat_map (λ t. joined t l) (range_with_len (m + 1) n)), length-joined m l, lays-long n (m + 1) l)
-
--- the taps from m + 1 on
-lays : (n m : ℕ) → m + n ≡ tap_limit → (l : List Pair) → rising m l ≡ true → list_all may_wait l ≡ true → changing (flat_map (λ t. joined t l) (range_with_len (m + 1) n)) ≡ sum_by (λ p. changing p.delta) l
-lays zero m h [] e w = refl
-lays zero m h (p ∷ l) e w =
-    let (above, _) = rising-parts m p l e in
-    let known = and_parts (nat_le 1 p.tap) (nat_le p.tap tap_limit) (waits p l w).known in
-    absurd (omega (arith, leb-true p.tap tap_limit known.1))
-lays (suc n) m h [] e w =
-    let rest = flat_map (λ t. joined t []) (range_with_len (m + 1 + 1) n) in
-    changing-append blank rest ∙ zero-add _ ∙ lays n (m + 1) (omega arith) [] refl refl
-lays (suc n) m h (p ∷ l) e w =
-    let (above, higher) = rising-parts m p l e in
-    let waiting = waits p l w in
-    let rest = λ (l : List Pair). flat_map (λ t. joined t l) (range_with_len (m + 1 + 1) n) in
-    changing-append (joined (m + 1) (p ∷ l)) (rest (p ∷ l))
-    ∙ ⊎_elim
-    (λ own. let behind : rising (m + 1) l ≡ true = rising-less (m + 1) p.tap l (omega arith) higher in
-    let here : joined (m + 1) (p ∷ l) ≡ p.delta = ap (λ q. joined (m + 1) (q ∷ l)) (pair-is p (m + 1) own) ∙ joined-own (m + 1) p.delta l waiting.long behind in
-    let others : rest (p ∷ l) ≡ rest l = flat_map-range _ _ (m + 1 + 1) n (λ u h. joined-other u p l (not_for u p (λ q. absurd (omega arith)))) in
-    (λ i. changing (here i) + changing (others i))
-    ∙ ap (λ x. changing p.delta + x) (lays n (m + 1) (omega arith) l behind waiting.rest)
-    ∙ sym (sum_by-cons (λ p. changing p.delta) p l))
-    (⊎_elim (λ below. absurd (omega arith))
-    (λ past. let e : rising (m + 1) (p ∷ l) ≡ true = rising-cons (m + 1) p l past higher in
-    ap (λ x. changing x + changing (rest (p ∷ l))) (joined-above (m + 1) (m + 1) (p ∷ l) (omega arith) e)
-    ∙ zero-add _
-    ∙ lays n (m + 1) (omega arith) (p ∷ l) e w))
-    (cases_order p.tap (m + 1))
+-- what passes a test before, and in the delta, passes it once the delta is put
+all-marked : (q : Change → Bool) (t : ℕ) (d : List Change) (l : List Pair) → list_all q (deltas l) ≡ true → list_all q d ≡ true → list_all q (deltas (marked l t d)) ≡ true
+all-marked q t d [] e f = cond_both (all_same d) _ _ (λ x. list_all q (deltas x) ≡ true) (λ _. refl) (λ _. all-deltas q (pair t d) [] f refl)
+all-marked q t d (p ∷ l) e f =
+    let h = parts-deltas q p l e in
+    marked_cases p l t d (λ x. list_all q (deltas x) ≡ true) (λ _. all-deltas q (pair t (join p.delta d)) l (all-join q p.delta d h.0 f) h.1)
+    (λ _. all-pair q t d (p ∷ l) f e) (λ _. all-deltas q p (marked l t d) h.0 (all-marked q t d l h.1 f))
 
 pub marks-lawful : Lawful marks
 marks-lawful = record {
-  empty-takes = λ t known. refl;
-  joins = λ l t d h. let w = and_parts (rising 0 l) _ h.listed in joins t d h.whole 0 l w.0 w.1;
-  leaves-others = λ l t d h u ne. ap (λ x. fold join blank (map (λ q. q.delta) x)) (leaves-others t d h.whole u ne l);
-  grows = λ l t d h. grows t d h.whole l;
-  passes-same = λ l t d h e. passes-same t d h.whole e l;
-  may-wait = λ l e. (and_parts (rising 0 l) _ e).1;
-  empty-held = refl;
-  put-held = λ l t d h. let w = and_parts (rising 0 l) _ h.listed in
-      and_from _ _ (stays-rising t d h.whole 0 (leb-true 1 t (and_parts _ (nat_le t tap_limit) h.known).0) l w.0) (stays-waiting t d h.whole h.known l w.1);
-  rest-held = λ p l e. let w = and_parts (rising 0 (p ∷ l)) _ e in
-      and_from _ _ (rising-less 0 p.tap l (omega arith) (rising-parts 0 p l w.0).1) (waits p l w.1).rest;
-  without-held = λ l t e. let w = and_parts (rising 0 l) _ e in and_from _ _ (rising-filter _ 0 l w.0) (list_all-filter may_wait _ l w.1);
-  lays-places = λ l e. lays-long tap_limit 1 l;
-  lays-list = λ l e. let w = and_parts (rising 0 l) _ e in lays tap_limit 0 refl l w.0 w.1;
-  empty-layout = refl;
+  empty-takes = λ m t none known. refl;
+  own-join = λ m t d h. let w = and_parts (rising 0 m) _ h.holdable in joins t d h.whole 0 m w.0 w.1;
+  other-joins = λ m t d h u ne. ap (λ x. fold join blank (map (λ q. q.delta) x)) (leaves-others t d h.whole u ne m);
+  grows = λ m t d h. grows t d h.whole m;
+  passes-same = λ m t d h e. passes-same t d h.whole e m;
+  may-wait = λ m e. (and_parts (rising 0 m) _ e).1;
+  empty-holds = refl;
+  put-holds = λ m t d h. let w = and_parts (rising 0 m) _ h.holdable in
+      and_from _ _ (stays-rising t d h.whole 0 (leb-true 1 t (and_parts _ (nat_le t tap_limit) h.known).0) m w.0) (stays-waiting t d h.whole h.known m w.1);
+  drop-holds = dropped;
+  forget-holds = λ m t e. let w = and_parts (rising 0 m) _ e in and_from _ _ (rising-filter _ 0 m w.0) (list_all-filter may_wait _ m w.1);
 }
+  where
+    dropped : (l : List Pair) → marks.holds l ≡ true → marks.holds (after_drop l) ≡ true
+    dropped [] e = refl
+    dropped (p ∷ l) e =
+        let w = and_parts (rising 0 (p ∷ l)) _ e in
+        and_from _ _ (rising-less 0 p.tap l (omega arith) (rising-parts 0 p l w.0).1) (waits p l w.1).rest
+
+pub marks-values : (allowed : List ℕ → Bool) → KeepsValues allowed marks
+marks-values allowed m t d h e f = all-marked (change_allowed allowed) t d m e f
 
 -- what waits in the memory of marks
 module _ {R : Type 0} (k : Kind R) where
@@ -207,6 +184,6 @@ module _ {R : Type 0} (k : Kind R) where
       pair_cases t x _ (λ l. list_all may_wait l ≡ true) (λ _. rest)
       (λ e. and_from _ _ (may_wait-from t x (and_from _ _ (le-leb 1 t low) (le-leb t tap_limit (omega arith))) (length-first n cs long) e) rest)
 
-  pub marks-held : (cs : List (records.Change R)) → length cs ≡ cell_limit → marks.holds (marks_of k cs) ≡ true
-  marks-held cs long =
+  pub marks-hold : (cs : List (records.Change R)) → length cs ≡ cell_limit → marks.holds (marks_of k cs) ≡ true
+  marks-hold cs long =
       and_from _ _ (marks-rising tap_limit 0 1 cs (omega arith)) (marks-wait tap_limit 1 cs (omega arith) (omega arith) long)

@@ -1,22 +1,22 @@
 -- A queue keeps the laws of a waiting buffer.
-use Rattle.std.specs.Prelude.{◌≡◌, ◌≢◌, ℕ, ◌+◌, ◌-◌, ◌*◌, ◌≤◌, Bool, true, cond, not, List, [], ◌∷◌, ◌++◌, map, length, replicate, fold, filter, sum_by, nat_le, refl}
+use Rattle.std.specs.Prelude.{◌≡◌, ◌≢◌, ℕ, ◌*◌, ◌≤◌, Bool, true, cond, not, List, [], ◌∷◌, ◌++◌, map, length, fold, filter, nat_le, refl}
 use Rattle.std.proofs.Common.{zero, suc, take, drop, not-suc-le-zero, sym, ap, ◌∙◌, arith}
 use Rattle.std.specs.List.{list_all}
 use Rattle.std.proofs.lemmas.Bool.{and_parts, and_from, cond_both, cond-true, eq-eqb, ne_eqb, le-leb, leb-true, lt-ltb, ltb-true, not-true}
-use Rattle.std.proofs.lemmas.List.{append-nil, length-append, length-replicate, map-append, length-drop, length-map, length-take, length-take-le, take-append-drop}
+use Rattle.std.proofs.lemmas.List.{append-nil, length-append, map-append, length-drop, length-map, length-take, length-take-le, take-append-drop}
 use Rattle.std.proofs.lemmas.List.Elements.{filter-append}
-use Rattle.std.proofs.lemmas.List.Folds.{list_all-append, sum_by-replicate}
-use Rattle.std.proofs.lemmas.List.Sums.{fold-append, sum_by-append, length-filter, count_by-le-length}
+use Rattle.std.proofs.lemmas.List.Folds.{list_all-append}
+use Rattle.std.proofs.lemmas.List.Sums.{fold-append, length-filter, count_by-le-length}
 use Rattle.row.specs.Kinds.{Kind}
 use Rattle.row.specs.Limits.{field_limit}
 use Rattle.row.specs.Records.{change_of}
 use Rattle.row.specs.declared.change.Change as records
-use Rattle.row.specs.Rows.{Change, same, join, blank, all_same}
+use Rattle.row.specs.Rows.{Change, join, blank, all_same}
 use Rattle.row.specs.Taps.{is_tap}
 use Rattle.waiting.specs.Limits.{pair_limit, queue_limit}
-use Rattle.waiting.specs.Lists.{Pair, pair, is_for, may_wait, changing, waiting_for, joined, deltas, without, pair_of_changes}
-use Rattle.waiting.specs.ListsLaws.{join-same, length-deltas, list_all-filter, may_wait-from}
-use Rattle.waiting.specs.Policies.{Put, Lawful}
+use Rattle.waiting.specs.Lists.{Pair, pair, is_for, may_wait, waiting_for, joined, deltas, without, change_allowed, pair_of_changes}
+use Rattle.waiting.specs.ListsLaws.{join-same, list_all-filter, may_wait-from, all-deltas, parts-deltas}
+use Rattle.waiting.specs.Policies.{Put, Lawful, KeepsValues, after_drop}
 use Rattle.waiting.specs.Queues.{queue, queue_of, pairs_in}
 use Rattle.waiting.specs.Rows.{rows_wait}
 
@@ -51,12 +51,10 @@ pair-waits t d tap whole =
 fewer : {X : Type 0} (q : X → Bool) (xs : List X) → length (filter q xs) ≤ length xs
 fewer q xs = omega (arith, length-filter q xs, count_by-le-length q xs)
 
-changing-deltas : (l : List Pair) → changing (deltas l) ≡ sum_by (λ p. changing p.delta) l
-changing-deltas [] = refl
-changing-deltas (p ∷ l) =
-    let rest = changing-deltas l in
-    let all = sum_by-append (λ p. changing p.delta) (p ∷ []) l in
-    sum_by-append _ p.delta (deltas l) ∙ omega arith
+-- what passes a test before, and in the delta, passes it with the delta's pair at the end
+all-end : (q : Change → Bool) (t : ℕ) (d : List Change) (l : List Pair) → list_all q (deltas l) ≡ true → list_all q d ≡ true → list_all q (deltas (l ++ pair_of_changes t d)) ≡ true
+all-end q t d [] e f = cond_both (all_same d) [] (pair t d ∷ []) (λ x. list_all q (deltas x) ≡ true) (λ _. refl) (λ _. all-deltas q (pair t d) [] f refl)
+all-end q t d (p ∷ l) e f = let h = parts-deltas q p l e in all-deltas q p (l ++ pair_of_changes t d) h.0 (all-end q t d l h.1 f)
 
 module _ (limit : ℕ) (some : 1 ≤ limit) where
   holds-parts : (l : List Pair) → (queue_of limit).holds l ≡ true → (length l ≤ limit) × (list_all may_wait l ≡ true)
@@ -67,39 +65,40 @@ module _ (limit : ℕ) (some : 1 ≤ limit) where
   holds-from : (l : List Pair) → length l ≤ limit → list_all may_wait l ≡ true → (queue_of limit).holds l ≡ true
   holds-from l few waits = and_from _ _ (le-leb (length l) limit few) waits
 
-  put-holds : (l : List Pair) (t : ℕ) (d : List Change) → Put (queue_of limit) l t d → (queue_of limit).holds (l ++ pair_of_changes t d) ≡ true
-  put-holds l t d p =
-      let h = holds-parts l p.listed in
+  put-held : (l : List Pair) (t : ℕ) (d : List Change) → Put (queue_of limit) l t d → (queue_of limit).holds (l ++ pair_of_changes t d) ≡ true
+  put-held l t d p =
+      let h = holds-parts l p.holdable in
       let room = ltb-true (length l) limit p.taken in
       holds-from (l ++ pair_of_changes t d) (omega (arith, length-append l (pair_of_changes t d), length-pair t d)) (list_all-append may_wait l (pair_of_changes t d) ∙ and_from _ _ h.1 (pair-waits t d p.known p.whole))
 
   pub queue_of-lawful : Lawful (queue_of limit)
   queue_of-lawful = record {
-    empty-takes = λ t known. lt-ltb 0 limit (omega arith);
-    joins = λ l t d p. joined-append t l (pair_of_changes t d) ∙ pair-own t (joined t l) d;
-    leaves-others = λ l t d p u ne. joined-append u l (pair_of_changes t d) ∙ pair-other t u (joined u l) d ne;
-    grows = λ l t d p. omega (arith, length-append l (pair_of_changes t d), length-pair t d);
-    passes-same = λ l t d p e. ap (λ m. l ++ m) (cond-true (all_same d) [] (pair t d ∷ []) e) ∙ append-nil l;
-    may-wait = λ l e. (holds-parts l e).1;
-    empty-held = holds-from [] (omega arith) refl;
-    put-held = put-holds;
-    rest-held = λ p l e. let h = holds-parts (p ∷ l) e in holds-from l (omega (arith, h.0)) (and_parts (may_wait p) (list_all may_wait l) h.1).1;
-    without-held = λ l t e.
-        let h = holds-parts l e in
-        holds-from (without t l) (omega (arith, h.0, fewer (λ p. not (is_for t p)) l)) (list_all-filter may_wait (λ p. not (is_for t p)) l h.1);
-    lays-places = λ l e.
-        let h = holds-parts l e in
-        let unused = length-replicate (field_limit * (limit - length l)) same in
-        length-append (deltas l) (replicate (field_limit * (limit - length l)) same) ∙ omega (arith, length-deltas l h.1, unused, h.0);
-    lays-list = λ l e.
-        sum_by-append _ (deltas l) (replicate (field_limit * (limit - length l)) same)
-        ∙ ap (λ n. changing (deltas l) + n) (sum_by-replicate _ (field_limit * (limit - length l)) same)
-        ∙ (let deltas = changing-deltas l in omega arith);
-    empty-layout = ap (λ n. replicate (field_limit * n) same) (omega arith);
+    empty-takes = λ m t none known. lt-ltb (length m) limit (omega (arith, ap length none));
+    own-join = λ m t d p. joined-append t m (pair_of_changes t d) ∙ pair-own t (joined t m) d;
+    other-joins = λ m t d p u ne. joined-append u m (pair_of_changes t d) ∙ pair-other t u (joined u m) d ne;
+    grows = λ m t d p. omega (arith, length-append m (pair_of_changes t d), length-pair t d);
+    passes-same = λ m t d p e. ap (λ l. m ++ l) (cond-true (all_same d) [] (pair t d ∷ []) e) ∙ append-nil m;
+    may-wait = λ m e. (holds-parts m e).1;
+    empty-holds = holds-from [] (omega arith) refl;
+    put-holds = put-held;
+    drop-holds = drop-held;
+    forget-holds = λ m t e.
+        let h = holds-parts m e in
+        holds-from (without t m) (omega (arith, h.0, fewer (λ p. not (is_for t p)) m)) (list_all-filter may_wait (λ p. not (is_for t p)) m h.1);
   }
+    where
+      drop-held : (l : List Pair) → (queue_of limit).holds l ≡ true → (queue_of limit).holds (after_drop l) ≡ true
+      drop-held [] e = e
+      drop-held (p ∷ l) e = let h = holds-parts (p ∷ l) e in holds-from l (omega (arith, h.0)) (and_parts (may_wait p) (list_all may_wait l) h.1).1
 
 pub queue-lawful : Lawful queue
 queue-lawful = queue_of-lawful pair_limit (omega arith)
+
+pub queue_of-values : (limit : ℕ) (allowed : List ℕ → Bool) → KeepsValues allowed (queue_of limit)
+queue_of-values limit allowed m t d p e f = all-end (change_allowed allowed) t d m e f
+
+pub queue-values : (allowed : List ℕ → Bool) → KeepsValues allowed queue
+queue-values = queue_of-values pair_limit
 
 -- what waits in the memory of a queue
 module _ {R : Type 0} (k : Kind R) where
@@ -124,13 +123,13 @@ module _ {R : Type 0} (k : Kind R) where
   length-pairs (t ∷ ts) cs = ap suc (length-pairs ts (drop field_limit cs))
 
   -- it is one that a queue of so many pairs can hold
-  pub pairs-held : (limit : ℕ) (ts : List ℕ) (cs : List (records.Change R)) → length ts ≤ limit → field_limit * length ts ≤ length cs → list_all is_tap ts ≡ true → rows_wait k (length ts) cs ≡ true → (queue_of limit).holds (pairs_in k ts cs) ≡ true
-  pairs-held limit ts cs few inside known busy =
+  pub pairs-hold : (limit : ℕ) (ts : List ℕ) (cs : List (records.Change R)) → length ts ≤ limit → field_limit * length ts ≤ length cs → list_all is_tap ts ≡ true → rows_wait k (length ts) cs ≡ true → (queue_of limit).holds (pairs_in k ts cs) ≡ true
+  pairs-hold limit ts cs few inside known busy =
       and_from _ _ (le-leb _ limit (omega (arith, length-pairs ts cs))) (pairs-wait ts cs inside known busy)
 
-  pub queue-held : (len : ℕ) (taps : List ℕ) (cs : List (records.Change R)) → len ≤ pair_limit → length cs ≡ queue_limit → list_all is_tap taps ≡ true → rows_wait k len cs ≡ true → queue.holds (pairs_in k (take len taps) cs) ≡ true
-  queue-held len taps cs few whole known busy =
+  pub queue-hold : (len : ℕ) (taps : List ℕ) (cs : List (records.Change R)) → len ≤ pair_limit → length cs ≡ queue_limit → list_all is_tap taps ≡ true → rows_wait k len cs ≡ true → queue.holds (pairs_in k (take len taps) cs) ≡ true
+  queue-hold len taps cs few whole known busy =
       let ts = take len taps in
       let short : length ts ≤ len = omega (arith, length-take len taps) in
       let taps-known = (and_parts _ _ (sym (list_all-append is_tap ts (drop len taps)) ∙ ap (list_all is_tap) (take-append-drop len taps) ∙ known)).0 in
-      pairs-held pair_limit ts cs (omega arith) (omega arith) taps-known (rows-less (length ts) len cs short busy)
+      pairs-hold pair_limit ts cs (omega arith) (omega arith) taps-known (rows-less (length ts) len cs short busy)

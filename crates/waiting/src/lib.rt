@@ -2,10 +2,15 @@
 #![tactic(auto)]
 
 mod buffer;
+mod joins;
+mod lender;
 mod marks;
 mod queue;
 mod rows;
 
-pub use buffer::{Pair, Unfit, Waiting};
+pub use buffer::{OverSlice, Pair, Unfit, Waiting};
+pub use joins::joins_keep_their_laws;
+pub use lender::put_alone;
 pub use marks::Marks;
 pub use queue::{PAIR_LIMIT, QUEUE_LIMIT, Queue};
+pub use rows::{clear_row, copy_changes, row_at, store_row, widen};

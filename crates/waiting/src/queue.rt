@@ -5,8 +5,8 @@ ghost use Rattle.row.specs.Taps.{is_tap};
 ghost use Rattle.waiting.specs.Limits.{pair_limit, queue_limit};
 ghost use Rattle.waiting.specs.Rows.{rows_wait};
 
-use crate::buffer::{Pair, Unfit, Waiting};
-use crate::rows::{copy_changes, remove_row, row, store_row};
+use crate::buffer::{OverSlice, Pair, Unfit, Waiting};
+use crate::rows::{copy_changes, remove_row, row_at, store_row, widen};
 use row::{Change, FIELD_LIMIT, Fault, Refusal, Tap, Value, all_same, blank};
 
 /// The pairs that may wait.
@@ -29,15 +29,32 @@ pub struct Queue<'a, R: Value> {
 }
 
 impl<R: Value> Queue<'_, R> {
-    ghost use Rattle.waiting.specs.Policies.{Kept};
-    ghost use Rattle.waiting.specs.Queues.{queue, queued};
+    ghost use Rattle.waiting.specs.Layouts.{Exact};
+    ghost use Rattle.waiting.specs.Policies.{nothing_waits};
+    ghost use Rattle.waiting.specs.Queues.{queue_rows, queued};
+
+    // A queue where nothing waits.
+    pub(crate) fn over<'a>(changes: &'a mut [Change<R>]) -> Queue<'a, R>
+        requires { length changes.old ≡ queue_limit }
+        ensures meaning { queued R.kind result ≡ nothing_waits }
+        ensures exact { Exact R.kind queue_rows result.changes.now (queued R.kind result) }
+        ensures lent { result.changes.ghost_name ≡ changes.entry.ghost_name }
+    {
+        blank(changes);
+        Queue {
+            changes,
+            // any tap's number
+            taps: [1; PAIR_LIMIT],
+            len: 0,
+        }
+    }
 
     // Removes the pair at a place: those behind it move up.
     fn remove(&mut self, i: usize)
         requires { i < self.old.len }
         ensures len { self.new.len + 1 ≡ self.old.len }
         ensures list { queued R.kind self.new ≡ remove (queued R.kind self.old) i }
-        ensures kept { Kept R.kind queue self.old.changes.now (queued R.kind self.old) → Kept R.kind queue self.new.changes.now (queued R.kind self.new) }
+        ensures exact { Exact R.kind queue_rows self.old.changes.now (queued R.kind self.old) → Exact R.kind queue_rows self.new.changes.now (queued R.kind self.new) }
         ensures lent { self.new.changes.ghost_name ≡ self.old.changes.ghost_name }
     {
         self.taps[i..].rotate_left(1);
@@ -46,56 +63,41 @@ impl<R: Value> Queue<'_, R> {
     }
 }
 
-impl<'a, R: Value> Waiting<'a, R> for Queue<'a, R> {
-    ghost use Rattle.waiting.specs.Queues.{queue, queued};
-    ghost use Rattle.waiting.specs.QueueLaws.{queue-lawful, queue-held};
+impl<'a, R: Value> Waiting<R> for Queue<'a, R> {
+    ghost use Rattle.waiting.specs.Layouts.{Exact};
+    ghost use Rattle.waiting.specs.Queues.{queue, queue_rows, queued};
+    ghost use Rattle.waiting.specs.QueueLaws.{queue-lawful, queue-values, queue-hold};
 
     ghost policy = { queue };
 
-    ghost list = { queued R.kind };
+    ghost meaning = { queued R.kind };
 
-    ghost memory = { λ q. q.changes.now };
+    ghost exact = { λ q. Exact R.kind queue_rows q.changes.now (queued R.kind q) };
 
     ghost lent = { λ q. q.changes.ghost_name };
 
     ghost lawful = { queue-lawful };
 
-    ghost held = { λ q. queue-held R.kind q.len q.taps q.changes.now q.few q.whole q.known q.busy };
+    ghost keeps_values = { queue-values R.kind.allowed };
 
-    fn places() -> usize {
-        QUEUE_LIMIT
-    }
-
-    fn new(changes: &'a mut [Change<R>]) -> Result<Queue<'a, R>, Unfit<'a, R>> {
-        if changes.len() != QUEUE_LIMIT {
-            return Err(Unfit { changes });
-        }
-        blank(changes);
-        Ok(Queue {
-            changes,
-            // any tap's number
-            taps: [1; PAIR_LIMIT],
-            len: 0,
-        })
-    }
+    ghost holdable = { λ q. queue-hold R.kind q.len q.taps q.changes.now q.few q.whole q.known q.busy };
 
     fn takes(&self, _: Tap) -> bool {
         self.len < PAIR_LIMIT
     }
 
     fn put(&mut self, tap: Tap, delta: &[Change<R>]) -> Result<(), Refusal> {
-        if delta.len() != FIELD_LIMIT {
-            return Err(Refusal::MEMORY);
-        }
+        let whole = widen(delta)?;
         if !self.takes(tap) {
             return Err(Fault::Full.at(0));
         }
-        if all_same(delta) {
+        if all_same(&whole) {
             return Ok(());
         }
         // the row before the count: a row that is counted has a change that is not same
         let i = self.len;
-        store_row(self.changes, i, delta);
+        // never refused: there is a row for each pair
+        let _ = store_row(self.changes, i, &whole);
         self.taps[i] = tap.number();
         self.len = i + 1;
         Ok(())
@@ -107,7 +109,7 @@ impl<'a, R: Value> Waiting<'a, R> for Queue<'a, R> {
         }
         // never refused: the queue's numbers are taps'
         let tap = Tap::try_from(self.taps[0])?;
-        let delta = row(self.changes, 0);
+        let delta = row_at(self.changes, 0);
         Ok(Pair { tap, delta })
     }
 
@@ -133,13 +135,31 @@ impl<'a, R: Value> Waiting<'a, R> for Queue<'a, R> {
     fn copy_to(&self, other: &mut Queue<'a, R>) {
         // no row of it waits while the rows change
         other.len = 0;
-        copy_changes(self.changes, other.changes);
+        // never refused: memory of a queue has one length
+        let _ = copy_changes(self.changes, other.changes);
         other.taps = self.taps;
         other.len = self.len;
     }
 
     fn count(&self) -> usize {
         self.len
+    }
+}
+
+impl<'a, R: Value> OverSlice<'a, R> for Queue<'a, R> {
+    ghost places = { queue_limit };
+
+    ghost memory = { λ q. q.changes.now };
+
+    fn places() -> usize {
+        QUEUE_LIMIT
+    }
+
+    fn new(changes: &'a mut [Change<R>]) -> Result<Queue<'a, R>, Unfit<'a, R>> {
+        if changes.len() != QUEUE_LIMIT {
+            return Err(Unfit { changes });
+        }
+        Ok(Queue::over(changes))
     }
 
     fn memory(&self) -> &[Change<R>] {

@@ -2,7 +2,7 @@ use Rattle.std.proofs.Common.{◌≡◌, cond, map, sym, ap, ◌∙◌}
 use Rattle.std.proofs.lemmas.Bool.{cond-true}
 use Rattle.std.proofs.lemmas.Simd.{map-map}
 use Rattle.row.specs.Canonical.{wholly-means}
-use Rattle.row.specs.Records.{cell_of, change_of, change_record, rows_fit, whole_changes, wholly}
+use Rattle.row.specs.Records.{cell_of, change_of, change_record, rows_fit, wholly}
 use Rattle.row.specs.Rows.{becomes}
 use Rattle.row.proofs.Over.{fit-swap, either-onto}
 use Rattle.row.proofs.change.whole_row.Goals as goal

@@ -15,5 +15,14 @@ returns c = record {
   hash-inside = refl;
   long-read = refl;
   too_long = refl;
+  logic-fits = refl;
+  logic-read = refl;
+  logic-words = refl;
+  marks-written = refl;
+  marks-read = refl;
+  marks-inside = refl;
+  divided-first = refl;
+  marks-escaped = refl;
+  caret-12 = refl;
   joining = λ v w. refl;
 }

@@ -1,6 +1,64 @@
+use Rattle.std.proofs.Common.{◌≡◌, ℕ, ◌≤◌, List, [], ◌∷◌, length, Ok, Err, Result, IfOk, sym, ap, ◌∙◌, arith, rules}
+use Rattle.std.specs.Prelude.{is_ok}
+use Rattle.std.specs.Result.{result_map_both}
+use Rattle.row.specs.declared.fault.Refusal.{Refusal}
 use Rattle.requests.proofs.Asking.{reads-asked}
-use Rattle.compose.proofs.ReadingBack.{reads-back}
+use Rattle.requests.specs.Limits.{request_limit}
+use Rattle.requests.specs.declared.name.Name.{Name}
+use Rattle.compose.specs.Drafts.{closed, ending, left_by, length_or}
+use Rattle.compose.specs.Held.{finish_answer}
+use Rattle.compose.specs.Writers.{draft_of}
+use Rattle.compose.specs.Written.{Assignment, written}
+use Rattle.compose.specs.declared.request.Finished.{Finished}
+use Rattle.compose.proofs.Holding.{finished-length, holds-finished, ok-finished}
+use Rattle.compose.proofs.ReadingBack.{reads-back, within-limit}
 use Rattle.compose.proofs.request.RequestWriter.finish.Goals as goal
+use Rattle.compose.proofs.request.RequestWriter.finish.Goals.{After-drop-closing}
+
+-- the flag is set exactly where the request is finished
+left : (c : After-drop-closing)
+    → c.drop-closing.new.self.0 ≡ left_by (closed (draft_of c.args.self))
+left c =
+    let d = draft_of c.args.self in
+    let kept = c.is_ok.ensures.value ∙ ap is_ok c.request_len-answer.ensures
+    ∙ sym (ok-finished d) in
+    c.drop-closing.ensures ∙ ap (λ k. left_by (record d { kept = k })) kept
+
+lengths : (c : After-drop-closing)
+    → result_map_both (λ f. f.len) (λ e. e) c.map.result ≡ length_or (ending (draft_of c.args.self))
+lengths c = let same : result_map_both (λ f. f.len) (λ e. e) c.map.result
+    ≡ c.request_len-answer.result = search rules in same ∙ c.request_len-answer.ensures
+    ∙ sym (finished-length (draft_of c.args.self))
+
+-- a length that is answered is that of the pairs
+within : (name : Name) (xs : List Assignment) (r : Result Finished Refusal)
+    → result_map_both (λ f. f.len) (λ e. e) r ≡ finish_answer name xs
+    → length (written name xs) ≤ request_limit → IfOk r (λ f. f.len ≤ request_limit)
+within name [] (Ok f) is short = absurd (let z : ◌≡◌ {A = ℕ} 0 1 = cc in omega arith)
+within name (x ∷ xs) (Ok f) is short = let same : f.len
+    ≡ length (written name (x ∷ xs)) = cc in omega arith
+within name xs (Err e) is short = tt
+
+pub returns-clause-bytes : goal.returns-clause-bytes
+returns-clause-bytes c = left (goal.at.returns-clause-bytes c).After-drop-closing
+
+pub returns-clause-answer : goal.returns-clause-answer
+returns-clause-answer c = lengths (goal.at.returns-clause-answer c).After-drop-closing
+
+pub returns-clause-pairs : goal.returns-clause-pairs
+returns-clause-pairs c xs h =
+    let here = (goal.at.returns-clause-pairs c).After-drop-closing in
+    let all = holds-finished (draft_of c.args.self) xs h in
+    (lengths here ∙ all.0, left here ∙ all.1)
+
+pub returns-clause-limit : goal.returns-clause-limit
+returns-clause-limit c xs h =
+    let here = (goal.at.returns-clause-limit c).After-drop-closing in
+    within c.args.self.name xs here.map.result
+    (lengths here ∙ (holds-finished (draft_of c.args.self) xs h).0) (within-limit _ xs h.fit)
 
 pub returns-clause-reads : goal.returns-clause-reads
 returns-clause-reads c = reads-back reads-asked
+
+pub returns-clause-within : goal.returns-clause-within
+returns-clause-within c = within-limit

@@ -5,4 +5,6 @@ use Rattle.viewer.proofs.Mapped.{mapped}
 use Rattle.viewer.proofs.hear.Viewer.holding.Goals as goal
 
 pub returns : goal.returns
-returns c = mapped _ _ waiting c.args.ids c.map.result tap_limit 0 c.map.ensures.items (omega arith) (λ x r p q k. search rules)
+returns c =
+    mapped _ _ waiting c.args.ids c.map.result tap_limit 0 c.map.ensures.items (omega arith)
+    (λ x r p q k. search rules)

@@ -19,7 +19,7 @@ loop-i-preserved-then-self-i g c =
     let gone = forgotten-removed t c.loop-i.i l _ (pair 0 []) before.gone (omega (arith, long)) here in
     record {
       gone = subst (λ m. Forgotten t c.loop-i.i m all) (sym c.remove.ensures.list) gone;
-      kept = λ old. c.remove.ensures.kept (before.kept old);
+      exact = λ old. c.remove.ensures.exact (before.exact old);
       lent = c.remove.ensures.lent ∙ before.lent;
     }
 
@@ -33,12 +33,12 @@ loop-i-preserved g c =
     let here = tap-taken k q.len c.loop-i.i q.taps q.changes.now (pair 0 []) c.loop-i-test.true (omega arith) in
     record {
       gone = forgotten-passed c.args.tap.number c.loop-i.i l _ (pair 0 []) before.gone (omega (arith, long)) (λ e. c.if-self-i.false (sym here ∙ e ∙ sym c.number.ensures));
-      kept = before.kept;
+      exact = before.exact;
       lent = before.lent;
     }
 
-pub returns-clause-list : goal.returns-clause-list
-returns-clause-list g c =
+pub returns-clause-meaning : goal.returns-clause-meaning
+returns-clause-meaning g c =
     let q = c.loop-i.self in
     let long = length-taken g.R.Value.kind q.len q.taps q.changes.now (omega arith) in
     forgotten-all c.args.tap.number c.loop-i.i _ _ c.loop-i.invariant.gone (omega (arith, long))

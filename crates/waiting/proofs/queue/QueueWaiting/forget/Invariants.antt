@@ -1,6 +1,6 @@
 use Rattle.std.proofs.Common.{◌≡◌, ◌-◌}
-use Rattle.waiting.specs.Policies.{Kept}
-use Rattle.waiting.specs.Queues.{queue, queued}
+use Rattle.waiting.specs.Layouts.{Exact}
+use Rattle.waiting.specs.Queues.{queue_rows, queued}
 use Rattle.waiting.proofs.Forgetting.{Forgotten}
 use Rattle.waiting.proofs.queue.QueueWaiting.forget.Given as goal
 
@@ -11,7 +11,7 @@ invariant-loop-i g l =
     let all = queued k l.initial.self in
     record {
       gone : Forgotten l.tap.number l.i list all;
-      kept : Kept k queue l.initial.self.changes.now all → Kept k queue l.self.changes.now list;
+      exact : Exact k queue_rows l.initial.self.changes.now all → Exact k queue_rows l.self.changes.now list;
       lent : l.self.changes.ghost_name ≡ l.initial.self.changes.ghost_name;
     }
 

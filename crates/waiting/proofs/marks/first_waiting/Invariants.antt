@@ -1,7 +1,0 @@
-use Rattle.std.proofs.Common.{◌≡◌, ◌+◌, ◌-◌, ◌*◌, drop}
-use Rattle.row.specs.Limits.{field_limit, tap_limit}
-use Rattle.waiting.specs.Marks.{marks_in, marks_of}
-use Rattle.waiting.proofs.marks.first_waiting.Given as goal
-
-abbrev pub invariant-loop-i : goal.invariant-loop-i
-invariant-loop-i g l = marks_in g.R.Value.kind (tap_limit - l.i) (1 + l.i) (drop (field_limit * l.i) l.changes) ≡ marks_of g.R.Value.kind l.changes

@@ -1,0 +1,41 @@
+-- What is promised of the joins of a waiting list, as its pairs are sent and forgotten.
+use Rattle.std.specs.Prelude.{◌≡◌, ◌≢◌, ℕ, Bool, true, not, List, ◌∷◌, take, drop}
+use Rattle.std.specs.List.{list_all}
+use Rattle.row.specs.Rows.{Change, join, blank, all_same}
+use Rattle.waiting.specs.Lists.{Pair, is_for, may_wait, waiting_for, joined, deltas, change_allowed}
+use Rattle.waiting.specs.Policies.{Meaning, listed, after_drop, after_forget}
+
+-- whether the n places from m on are same
+abbrev pub same_in : ℕ → ℕ → List Change → Bool
+same_in m n d = all_same (take n (drop m d))
+
+-- the join of the first pair's tap is its delta, joined with the join of what waits behind it
+abbrev pub FirstTakenOff : Type 0
+FirstTakenOff = (p : Pair) (l : List Pair) → list_all may_wait (p ∷ l) ≡ true → joined p.tap (p ∷ l) ≡ join p.delta (joined p.tap l)
+
+-- every other tap's join is the join of what waits behind it
+abbrev pub OthersBehind : Type 0
+OthersBehind = (p : Pair) (l : List Pair) (u : ℕ) → u ≢ p.tap → joined u (p ∷ l) ≡ joined u l
+
+-- without a tap's pairs its join is blank
+abbrev pub BlankWithout : Type 0
+BlankWithout = (t : ℕ) (m : Meaning) → joined t (listed (after_forget t m)) ≡ blank
+
+-- and every other tap's join stays
+abbrev pub OthersWithout : Type 0
+OthersWithout = (t u : ℕ) (m : Meaning) → u ≢ t → joined u (listed (after_forget t m)) ≡ joined u (listed m)
+
+-- where a join is blank and all pairs may wait, no pair is for the tap
+abbrev pub NoneForBlank : Type 0
+NoneForBlank = (t : ℕ) (l : List Pair) → list_all may_wait l ≡ true → joined t l ≡ blank → list_all (λ p. not (is_for t p)) l ≡ true
+
+-- places that are same in the join are same in each delta, and conversely
+abbrev pub SameInEach : Type 0
+SameInEach = (m n t : ℕ) (l : List Pair) → list_all may_wait l ≡ true → same_in m n (joined t l) ≡ list_all (same_in m n) (waiting_for t l)
+
+-- where the texts of all that waits are allowed, so they are once a pair is dropped, and a tap forgotten
+abbrev pub DropAllows : Type 0
+DropAllows = (allowed : List ℕ → Bool) (m : Meaning) → list_all (change_allowed allowed) (deltas (listed m)) ≡ true → list_all (change_allowed allowed) (deltas (listed (after_drop m))) ≡ true
+
+abbrev pub ForgetAllows : Type 0
+ForgetAllows = (allowed : List ℕ → Bool) (t : ℕ) (m : Meaning) → list_all (change_allowed allowed) (deltas (listed m)) ≡ true → list_all (change_allowed allowed) (deltas (listed (after_forget t m))) ≡ true

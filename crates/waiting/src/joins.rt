@@ -1,0 +1,14 @@
+//! What joins keep as pairs are sent and forgotten.
+ghost use Rattle.waiting.specs.Joins.{FirstTakenOff, OthersBehind, BlankWithout, OthersWithout, NoneForBlank, SameInEach, DropAllows, ForgetAllows};
+
+/// The laws of joins that hold of each waiting list, whatever the kind. Nothing to run: the contract says them.
+pub fn joins_keep_their_laws()
+    ensures first { FirstTakenOff }
+    ensures behind { OthersBehind }
+    ensures without { BlankWithout }
+    ensures others { OthersWithout }
+    ensures blank { NoneForBlank }
+    ensures same { SameInEach }
+    ensures drop { DropAllows }
+    ensures forget { ForgetAllows }
+{}
