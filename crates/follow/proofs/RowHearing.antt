@@ -1,5 +1,5 @@
 -- A printed row, heard after SUBOK.
-use Rattle.std.proofs.Common.{◌≡◌, ◌≢◌, true, ℕ, ◌+◌, ◌-◌, ◌<◌, ◌≤◌, List, [], ◌∷◌, ◌++◌, map, length, take, replicate, Some, Ok, Err, Result, sym, refl, ap, ◌∙◌, subst, arith}
+use Rattle.std.proofs.Common.{◌≡◌, ℕ, ◌+◌, ◌-◌, ◌≤◌, List, [], ◌∷◌, ◌++◌, map, length, replicate, Some, Ok, Err, Result, sym, refl, ap, ◌∙◌, subst, arith}
 use Rattle.std.specs.Prelude.{IsOkAnd, IsSome}
 use Rattle.std.proofs.lemmas.Bool.{and_from}
 use Rattle.std.proofs.lemmas.Fmt.{length-decimal-le}
@@ -10,7 +10,6 @@ use Rattle.row.specs.Records.{cell_of, whole_changes}
 use Rattle.row.specs.Rows.{Cell, Change, becomes, blank, changed, null, row_at, same}
 use Rattle.row.specs.declared.change.Cell as records
 use Rattle.row.specs.declared.fault.Refusal.{Refusal}
-use Rattle.tlcp.specs.Held.{filled}
 use Rattle.tlcp.specs.Limits.{id_limit, line_limit}
 use Rattle.tlcp.specs.Lists.{Spells, written_list}
 use Rattle.tlcp.specs.Parts.{Piece}
@@ -20,21 +19,21 @@ use Rattle.tlcp.proofs.Spelling.{reads-spelled}
 use Rattle.tlcp.proofs.Unescaped.{reads-escapes}
 use Rattle.tlcp.specs.declared.tag.Tag.TheVariants.{Subok}
 use Rattle.notify.specs.Back.{Reads, laid}
-use Rattle.notify.specs.Given.{Saying, line_text, number, saying, single, within}
+use Rattle.notify.specs.Given.{Saying, line_text, number, saying, one_item}
 use Rattle.notify.proofs.Backing.{read_back}
 use Rattle.viewer.specs.Effects.{opens, updates}
-use Rattle.viewer.specs.Hearing.{View, after_line, cells_after, changed_by_lines, entries_after, hear, null_cells}
+use Rattle.viewer.specs.Hearing.{View, after_line, cells_after, entries_after, hear, null_cells}
 use Rattle.viewer.specs.Laws.{Asks, First, Sets, entry_at, subok, update}
 use Rattle.viewer.specs.declared.entry.Entry.{Entry}
 use Rattle.viewer.proofs.Keeping.{hearing-laws}
 use Rattle.follow.specs.Answers.{row_update}
-use Rattle.follow.specs.PrintedRows.{PrintedWhole, Row, RowsHeard, fields_of, row_of, subok_line}
+use Rattle.follow.specs.PrintedRows.{Row, RowsHeard, fields_of, row_of, subok_line}
 use Rattle.follow.proofs.RowReading.{null-changed, number-within, printed-whole}
 
 module _ {R : Type 0} (k : Kind R) (law : Lawful k) (id n : ℕ) (row : List (records.Cell R))
     (h : Row k id n row) where
   abbrev opening : Saying
-  opening = saying Subok (number id ∷ single ∷ number n ∷ [])
+  opening = saying Subok (number id ∷ one_item ∷ number n ∷ [])
 
   opening-short : length (line_text opening) ≤ line_limit
   opening-short =
@@ -83,14 +82,15 @@ module _ {R : Type 0} (k : Kind R) (law : Lawful k) (id n : ℕ) (row : List (re
   delta-long : length delta ≡ n
   delta-long = length-map (fields_of k n row) becomes ∙ fields-long
 
+  abbrev brought : List Change
+  brought = delta ++ replicate (field_limit - n) same
+
   -- the delta gives a null row the cells of the row
-  null-to-row : changed null_cells (filled delta) ≡ row_of k n row
+  null-to-row : changed null_cells delta ≡ row_of k n row
   null-to-row =
-      let more : field_limit - length delta ≡ field_limit - n =
-      ap (λ m. field_limit - m) delta-long in
       let all : field_limit ≡ length (fields_of k n row) + (field_limit - n) =
       omega (arith, fields-long, h.few) in
-      (λ i. changed (replicate (all i) null) (delta ++ replicate (more i) same))
+      ap (λ m. changed (replicate m null) delta) all
       ∙ null-changed (fields_of k n row) (field_limit - n)
 
   module _ (es : List Entry) (cs : List Cell) (i : ℕ) (les : length es ≡ tap_limit)
@@ -123,7 +123,7 @@ module _ {R : Type 0} (k : Kind R) (law : Lawful k) (id n : ℕ) (row : List (re
 
         told : IsOkAnd (hear k.allowed v.entries v.cells line)
             (Sets v.entries v.cells i (entry_at v.entries i)
-            (changed (row_at i v.cells) (filled delta)) (filled delta))
+            (changed (row_at i v.cells) delta) brought)
         told =
             let spelled =
             ((reads-spelled k.allowed n
@@ -137,19 +137,19 @@ module _ {R : Type 0} (k : Kind R) (law : Lawful k) (id n : ℕ) (row : List (re
         by : (r : Result View Refusal) → hear k.allowed v.entries v.cells line ≡ r
             → IsOkAnd (hear k.allowed v.entries v.cells line)
             (Sets v.entries v.cells i (entry_at v.entries i)
-            (changed (row_at i v.cells) (filled delta)) (filled delta))
+            (changed (row_at i v.cells) delta) brought)
             → row_at i (cells_after v.cells r) ≡ row_of k n row
         by (Ok w) e t =
             let s = subst
             (λ x. IsOkAnd x
             (Sets v.entries v.cells i (entry_at v.entries i)
-            (changed (row_at i v.cells) (filled delta)) (filled delta))) e t in
-            s.row ∙ ap (λ c. changed c (filled delta)) sets.row ∙ null-to-row
+            (changed (row_at i v.cells) delta) brought)) e t in
+            s.row ∙ ap (λ c. changed c delta) sets.row ∙ null-to-row
         by (Err e) is t =
             absurd (subst
             (λ x. IsOkAnd x
             (Sets v.entries v.cells i (entry_at v.entries i)
-            (changed (row_at i v.cells) (filled delta)) (filled delta))) is t)
+            (changed (row_at i v.cells) delta) brought)) is t)
 
     after-both : (r : Result View Refusal) → hear k.allowed es cs (subok_line id n) ≡ r
         → row_at i (after_line k.allowed (entries_after es r, cells_after cs r) line).1

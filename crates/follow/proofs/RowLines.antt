@@ -1,6 +1,6 @@
 -- A row's line, as the writer leaves it in lent memory.
 use Rattle.std.proofs.Common.{◌≡◌, ◌==◌, Bool, true, false, ◌&&◌, cond, ℕ, ◌+◌, List, [], ◌∷◌, ◌++◌, map, length, take, drop, replicate, Ok, Err, Result, sym, refl, ap, ◌∙◌, subst, arith}
-use Rattle.std.proofs.lemmas.Bool.{and_from, cond-true, eq-eqb, le-leb}
+use Rattle.std.proofs.lemmas.Bool.{cond-true, eq-eqb, le-leb}
 use Rattle.std.proofs.lemmas.List.{length-map, length-replicate, take_at}
 use Rattle.row.specs.Kinds.{Kind, Lawful}
 use Rattle.row.specs.Limits.{field_limit}
@@ -14,7 +14,7 @@ use Rattle.tlcp.specs.Lists.{uncovered}
 use Rattle.tlcp.specs.Written.{covers, end_or, fits, no_room, placed, placed_or}
 use Rattle.notify.specs.Back.{Update}
 use Rattle.notify.specs.Given.{line_text, within}
-use Rattle.notify.specs.Written.{beyond, update_answer, update_of, update_placed}
+use Rattle.notify.specs.Written.{beyond, update_answer, update_placed}
 use Rattle.notify.proofs.Updating.{update-short}
 use Rattle.streams.specs.Ends.{line_feed}
 use Rattle.follow.specs.Answers.{row_line, row_update}

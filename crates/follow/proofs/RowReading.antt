@@ -1,13 +1,13 @@
 -- A printed row, read again.
-use Rattle.std.proofs.Common.{◌≡◌, true, ◌&&◌, ℕ, zero, suc, ◌+◌, ◌-◌, ◌≤◌, List, [], ◌∷◌, ◌++◌, map, length, take, replicate, Ok, sym, refl, ap, ◌∙◌, arith}
+use Rattle.std.proofs.Common.{◌≡◌, true, ◌&&◌, ℕ, suc, ◌+◌, ◌≤◌, List, [], ◌∷◌, ◌++◌, map, length, take, replicate, Ok, sym, refl, ap, ◌∙◌, arith}
 use Rattle.std.proofs.lemmas.Bool.{and_from, cond-true, le-leb}
 use Rattle.std.proofs.lemmas.List.{take-map}
 use Rattle.std.proofs.lemmas.Simd.{map-map}
 use Rattle.row.specs.Canonical.{wholly-means}
 use Rattle.row.specs.Kinds.{Kind, Lawful}
 use Rattle.row.specs.Limits.{field_limit}
-use Rattle.row.specs.Records.{cell_of, change_of, change_record, whole_changes, wholly}
-use Rattle.row.specs.Rows.{Cell, becomes, changed, null, same}
+use Rattle.row.specs.Records.{cell_of, change_of, change_record, whole_changes}
+use Rattle.row.specs.Rows.{Cell, becomes, changed, null}
 use Rattle.row.specs.declared.change.Cell as records
 use Rattle.tlcp.specs.Limits.{id_limit}
 use Rattle.tlcp.specs.Lines as lines
@@ -59,16 +59,18 @@ module _ {R : Type 0} (k : Kind R) (law : Lawful k) (id n : ℕ) (row : List (re
         cells = back.1 ∙ ap Ok says;
       }
 
--- changes that come to every cell of a null row's fields leave these cells
+-- a row that no change comes to stays
+changed-none : (row : List Cell) → changed row [] ≡ row
+changed-none [] = refl
+changed-none (c ∷ row) = refl
+
+-- changes that come to every field of a null row leave its fields' cells
 pub null-changed : (cells : List Cell) (m : ℕ)
-    → changed (replicate (length cells + m) null) (map becomes cells ++ replicate m same)
-    ≡ cells ++ replicate m null
-null-changed [] zero = refl
-null-changed [] (suc m) =
-    let one : 0 + suc m ≡ suc (0 + m) = omega arith in
-    ap (λ n. changed (replicate n null) (replicate (suc m) same)) one
-    ∙ ap (λ cs. null ∷ cs) (null-changed [] m)
+    → changed (replicate (length cells + m) null) (map becomes cells) ≡ cells ++ replicate m null
+null-changed [] m =
+    let all : 0 + m ≡ m = omega arith in
+    ap (λ n. changed (replicate n null) []) all ∙ changed-none (replicate m null)
 null-changed (c ∷ cells) m =
     let one : suc (length cells) + m ≡ suc (length cells + m) = omega arith in
-    ap (λ n. changed (replicate n null) (becomes c ∷ (map becomes cells ++ replicate m same))) one
+    ap (λ n. changed (replicate n null) (becomes c ∷ map becomes cells)) one
     ∙ ap (λ cs. c ∷ cs) (null-changed cells m)

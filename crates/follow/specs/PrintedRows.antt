@@ -10,7 +10,7 @@ use Rattle.tlcp.specs.Lines.{read_line}
 use Rattle.tlcp.specs.Lists.{read_list, written_list}
 use Rattle.tlcp.specs.Written.{changes_of}
 use Rattle.notify.specs.Back.{Unbroken, laid}
-use Rattle.notify.specs.Given.{line_text, number, saying, single}
+use Rattle.notify.specs.Given.{line_text, number, saying, one_item}
 use Rattle.tlcp.specs.declared.tag.Tag.TheVariants.{Subok}
 use Rattle.streams.specs.Ends.{line_feed}
 use Rattle.viewer.specs.Effects.{opens}
@@ -21,7 +21,7 @@ use Rattle.follow.specs.Answers.{row_line, row_update}
 
 -- the line that opens an entry
 abbrev pub subok_line : ℕ → ℕ → List ℕ
-subok_line id n = line_text (saying Subok (number id ∷ single ∷ number n ∷ []))
+subok_line id n = line_text (saying Subok (number id ∷ one_item ∷ number n ∷ []))
 
 module _ {R : Type 0} (k : Kind R) where
   -- the cells of a row's fields

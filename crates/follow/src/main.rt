@@ -24,8 +24,8 @@ use streams::{Failure, answer_all};
 const USAGE: &str = "the kind of value is text or logic";
 
 // The kind that the program's arguments name, behind its own name: text where they name none.
-// Like `chosen` of `request`: one function for both would take a default, a usage and a closure, for
-// these five lines.
+// Like `chosen` of `request`: one function for both would take a default, a usage and a closure,
+// for these five lines.
 fn chosen(rt: &HostRuntime) -> anyhow::Result<Kind> {
     let mut words = env::args(rt)?;
     let _ = words.next();

@@ -48,7 +48,8 @@ pub(crate) fn push_rows<V: Value>(
     viewer: &Viewer,
     cells: &[Cell<V>; CELL_LIMIT],
 ) -> Result<(), AllocError>
-    ensures { OnOk result (out.new.items ≡ out.old.items ++ rows_text V.kind viewer.now.entries cells.now) }
+    ensures { OnOk result
+        (out.new.items ≡ out.old.items ++ rows_text V.kind viewer.now.entries cells.now) }
 {
     for (entry, row) in viewer.entries().iter().zip(cells.chunks_exact(FIELD_LIMIT)) {
         push_entry(out, *entry, row)?;

@@ -5,7 +5,8 @@ use Rattle.std.specs.Prelude.{ℕ, ◌+◌}
 abbrev pub spelled_limit : ℕ
 spelled_limit = 8192
 
--- so many bytes are held of a line: enough to tell one that is too long, whether CR LF ends it or LF
+-- so many bytes are held of a line: enough to tell one that is too long, whether CR LF ends it or
+-- LF
 abbrev pub held_limit : ℕ
 held_limit = spelled_limit + 2
 

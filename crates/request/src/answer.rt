@@ -30,7 +30,8 @@ fn check(line: &[u8], session: u32, text: &mut [u8]) -> Result<usize, Refusal>
 
 // Appends the answer to a line, given without its end.
 pub(crate) fn push_answer(out: &mut Vec<u8>, line: &[u8], session: u32) -> Result<(), AllocError>
-    ensures { OnOk result (out.new.items ≡ out.old.items ++ answer_text (checked session line.now)) }
+    ensures { OnOk result
+        (out.new.items ≡ out.old.items ++ answer_text (checked session line.now)) }
 {
     // the request writer allocates nothing: it writes into bytes that it is lent
     let mut text = [0u8; REQUEST_LIMIT];

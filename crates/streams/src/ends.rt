@@ -60,7 +60,8 @@ fn find_end(s: &[u8]) -> Option<usize>
 pub fn split_line(s: &[u8]) -> (&[u8], Option<&[u8]>)
     ensures front { result.0.now ≡ before line_feed s.now }
     ensures back { option_map (λ x. x.now) result.1 ≡ behind line_feed s.now }
-    ensures sizes { MatchOption result.1 (length result.0.now ≡ length s.now) (λ t. length result.0.now + (length t.now + 1) ≡ length s.now) }
+    ensures sizes { MatchOption result.1 (length result.0.now ≡ length s.now)
+        (λ t. length result.0.now + (length t.now + 1) ≡ length s.now) }
 {
     match find_end(s) {
         Some(end) => (&s[..end], Some(&s[end + 1..])),

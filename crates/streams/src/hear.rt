@@ -19,7 +19,8 @@ pub trait Hear: Drop {
 
     /// Hears a line, given without its end, and appends the answer.
     fn hear(&mut self, line: &[u8], out: &mut Vec<u8>) -> Result<(), AllocError>
-        ensures { OnOk result (Heard hearing self.old self.new line.now out.old.items out.new.items) };
+        ensures { OnOk result
+            (Heard hearing self.old self.new line.now out.old.items out.new.items) };
 
     /// Appends what is said at the end of the input.
     fn close(&self, out: &mut Vec<u8>) -> Result<(), AllocError>

@@ -22,8 +22,11 @@ pub fn answer_block<H: Hear, W: Write>(
     text: &mut Vec<u8>,
     output: &mut W,
 ) -> io::Result<()>
-    ensures state { OnOk result (state_of stream.new ≡ (fed H.LIMIT H.hearing (state_of stream.old) block.now).state) }
-    ensures written { OnOk result (Appends (W.contents output.old) (W.contents output.new) (fed H.LIMIT H.hearing (state_of stream.old) block.now).text) }
+    ensures state { OnOk result
+        (state_of stream.new ≡ (fed H.LIMIT H.hearing (state_of stream.old) block.now).state) }
+    ensures written { OnOk result
+        (Appends (W.contents output.old) (W.contents output.new)
+        (fed H.LIMIT H.hearing (state_of stream.old) block.now).text) }
 {
     text.clear();
     stream.feed(block, text)?;
@@ -36,7 +39,9 @@ fn answer_end<H: Hear, W: Write>(
     stream: &mut Stream<H>,
     output: &mut W,
 ) -> io::Result<()>
-    ensures { OnOk result (Appends (W.contents output.old) (W.contents output.new) (finished H.LIMIT H.hearing (state_of stream.old)).text) }
+    ensures { OnOk result
+        (Appends (W.contents output.old) (W.contents output.new)
+        (finished H.LIMIT H.hearing (state_of stream.old)).text) }
 {
     let mut text = Vec::new(heap);
     stream.finish(&mut text)?;

@@ -19,7 +19,9 @@ struct Counted<H> {
 impl<H: Hear> Counted<H> {
     // Hears a line, given without its end, and appends its number and the answer.
     fn hear(&mut self, line: &[u8], out: &mut Vec<u8>) -> Result<(), AllocError>
-        ensures { OnOk result (HeardLine (hear_line H.LIMIT H.hearing (state_with self.old []) line.now) self.new out.old.items out.new.items) }
+        ensures { OnOk result
+            (HeardLine (hear_line H.LIMIT H.hearing (state_with self.old []) line.now)
+            self.new out.old.items out.new.items) }
     {
         self.count = self.count.saturating_add(1);
         push_number(out, self.count)?;
@@ -37,8 +39,8 @@ pub struct Stream<H> {
 }
 
 impl<H: Hear> Stream<H> {
-    /// A stream before its first byte. How an input is cut into blocks makes no difference, and what
-    /// all its blocks and its end append is what is printed of its lines.
+    /// A stream before its first byte. How an input is cut into blocks makes no difference, and
+    /// what all its blocks and its end append is what is printed of its lines.
     pub fn new(heap: Global, listener: H) -> Stream<H>
         ensures state { state_of result ≡ fresh listener }
         ensures blocks { CutAnywhere H.LIMIT H.hearing }
@@ -52,7 +54,9 @@ impl<H: Hear> Stream<H> {
 
     // Hears the line whose last bytes these are. One that came whole need not be held.
     fn end_line(&mut self, bytes: &[u8], out: &mut Vec<u8>) -> Result<(), AllocError>
-        ensures { OnOk result (Fed (ended H.LIMIT H.hearing (keep H.LIMIT H.hearing (state_of self.old) bytes.now)) self.new out.old.items out.new.items) }
+        ensures { OnOk result
+            (Fed (ended H.LIMIT H.hearing (keep H.LIMIT H.hearing (state_of self.old) bytes.now))
+            self.new out.old.items out.new.items) }
     {
         if self.held.is_empty() {
             return self.counted.hear(without_cr(front(bytes, H::LIMIT)), out);
@@ -65,7 +69,9 @@ impl<H: Hear> Stream<H> {
 
     /// Takes some bytes of the input, and appends the answers to the lines that end in them.
     pub fn feed(&mut self, block: &[u8], out: &mut Vec<u8>) -> Result<(), AllocError>
-        ensures { OnOk result (Fed (fed H.LIMIT H.hearing (state_of self.old) block.now) self.new out.old.items out.new.items) }
+        ensures { OnOk result
+            (Fed (fed H.LIMIT H.hearing (state_of self.old) block.now)
+            self.new out.old.items out.new.items) }
     {
         let mut left = block;
         loop {
@@ -81,7 +87,9 @@ impl<H: Hear> Stream<H> {
 
     // Hears a last line that has no end, if there is one.
     fn last_line(&mut self, out: &mut Vec<u8>) -> Result<(), AllocError>
-        ensures { OnOk result (Fed (last_line H.LIMIT H.hearing (state_of self.old)) self.new out.old.items out.new.items) }
+        ensures { OnOk result
+            (Fed (last_line H.LIMIT H.hearing (state_of self.old))
+            self.new out.old.items out.new.items) }
     {
         if !self.held.is_empty() {
             self.counted.hear(&self.held, out)?;
@@ -90,9 +98,12 @@ impl<H: Hear> Stream<H> {
         Ok(())
     }
 
-    /// The input has ended: answers a last line that has no end, and appends what is said at the end.
+    /// The input has ended: answers a last line that has no end, if there is one, and appends what
+    /// is said at the end.
     pub fn finish(&mut self, out: &mut Vec<u8>) -> Result<(), AllocError>
-        ensures { OnOk result (Fed (finished H.LIMIT H.hearing (state_of self.old)) self.new out.old.items out.new.items) }
+        ensures { OnOk result
+            (Fed (finished H.LIMIT H.hearing (state_of self.old))
+            self.new out.old.items out.new.items) }
     {
         self.last_line(out)?;
         self.counted.listener.close(out)

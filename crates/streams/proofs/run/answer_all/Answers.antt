@@ -16,7 +16,8 @@ returns-in-Err-clause-so_far g c =
       seen,
       consumes-kept (g.R.Read.remaining c.args.input.now) (g.R.Read.remaining c.loop.input)
           (g.R.Read.remaining c.read.new.self) seen so.read c.in-Err.ensures.bytes,
-      λ few. subst written (prints-so-far g.H.Hear.LIMIT g.H.Hear.hearing g.met.H.Hear.enough c.args.listener seen few) so.wrote,
+      λ few. subst written
+          (prints-so-far g.H.Hear.LIMIT g.H.Hear.hearing g.met.H.Hear.enough c.args.listener seen few) so.wrote,
     )
 
 pub returns-clause-all : goal.returns-clause-all
@@ -33,7 +34,8 @@ returns-clause-all g c =
       | then-loop-test+in-Ok-eq0 w ↦
           inl
           (at-end input (g.R.Read.remaining w.read.new.self) _
-          (ap (λ n. take n w.read.new.buf) w.in-Ok-eq0.field-0-test) w.in-Ok-eq0.ensures.bytes.0 (w.in-Ok-eq0.ensures.bytes.1 w.in-Ok-eq0.field-0-test (omega (arith, so.block))))
+          (ap (λ n. take n w.read.new.buf) w.in-Ok-eq0.field-0-test) w.in-Ok-eq0.ensures.bytes.0
+          (w.in-Ok-eq0.ensures.bytes.1 w.in-Ok-eq0.field-0-test (omega (arith, so.block))))
     ] in
     let P = Appends before behind in
     same-ok _ c.answer_end.result c.map_err-2.result c.map_err-2.ensures.variant

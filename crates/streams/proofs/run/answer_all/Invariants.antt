@@ -10,7 +10,9 @@ invariant-loop g l =
     (seen : List ℕ) × record {
       turns : l.counter ≤ length seen;
       read : Consumes (g.R.Read.remaining l.initial.input) (g.R.Read.remaining l.input) seen;
-      wrote : Appends (g.W.Write.contents l.initial.output) (g.W.Write.contents l.output) (fed g.H.Hear.LIMIT g.H.Hear.hearing (fresh l.fn.listener) seen).text;
-      state : state_of l.stream ≡ (fed g.H.Hear.LIMIT g.H.Hear.hearing (fresh l.fn.listener) seen).state;
+      wrote : Appends (g.W.Write.contents l.initial.output) (g.W.Write.contents l.output)
+          (fed g.H.Hear.LIMIT g.H.Hear.hearing (fresh l.fn.listener) seen).text;
+      state : state_of l.stream ≡
+          (fed g.H.Hear.LIMIT g.H.Hear.hearing (fresh l.fn.listener) seen).state;
       block : length l.block ≡ 65536;
     }
