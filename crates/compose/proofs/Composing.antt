@@ -121,13 +121,13 @@ module _ (name : Name) (out : List ℕ) where
       (new : is_some (found (map given_by xs) x.parameter) ≡ false) (h : Reached d xs) where
     opens : is_open d x.parameter ≡ true
     opens = and_from _ _ (ap (λ n. is_in x.parameter (parameters_of n)) h.named ∙ known)
-        (ap not (h.holds.added x.parameter ∙ new))
+        (ap not (h.holds.tally.added x.parameter ∙ new))
 
     abbrev fit : Bool
     fit = fits d.len (addition d x) d.bytes
 
     size : d.len + length (addition d x) ≡ length (written name (xs ++ x ∷ []))
-    size = size-more d x xs h.holds ∙ ap (λ m. length (written m (xs ++ x ∷ []))) h.named
+    size = size-more d x xs h.holds.tally ∙ ap (λ m. length (written m (xs ++ x ∷ []))) h.named
 
     pub answered : add_answer d x ≡ settled (has_room d x)
     answered = cond-true d.begun _ _ h.holds.begun ∙ cond-true _ _ _ opens
@@ -164,11 +164,11 @@ module _ (name : Name) (out : List ℕ) where
   finish-composed d xs h =
       let (answer, bytes) = holds-finished d xs h.holds in
       let t = written d.name xs in
-      let text = ap length h.holds.request.text
+      let text = ap length h.holds.text
       ∙ length-append t (replicate (length d.bytes - length t) 0) in
       let size : length t ≡ length (written name xs) = ap (λ m. length (written m xs)) h.named in
       let room : 0 + length (written name xs) ≤ length out = omega (arith, h.long, size, text) in
-      let fit = and_from (are_short xs) _ (are-short xs h.holds.fit.short)
+      let fit = and_from (are_short xs) _ (are-short xs h.holds.tally.fit.short)
       (le-leb (0 + length (written name xs)) (length out) room) in (
         answer ∙ ap (λ m. finish_answer m xs) h.named ∙ sym (cond-true _ _ _ fit),
         sym (closed-left d (zeroed_or name out) h.holds.unkept (reached-left d xs h)) ∙ bytes

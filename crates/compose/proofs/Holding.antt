@@ -5,7 +5,7 @@ use Rattle.std.specs.Result.{result_map_both}
 use Rattle.std.specs.List.{AllByRecursion, flat_map}
 use Rattle.std.proofs.lemmas.List.{append-nil, length-append, length-replicate, length-set, get_or_past, get_or-replicate, get_or-set_same, get_or-set_other, flat_map_more, map_push, take_at, drop_at, drop-drop, drop-replicate}
 use Rattle.std.proofs.lemmas.Bool.Decides.{nat_tests}
-use Rattle.std.proofs.lemmas.Bool.{cases_lt, and_parts, both_ways, cases_eq, eq-eqb, ne_eqb, leb-true, not-true, or_right, or_from}
+use Rattle.std.proofs.lemmas.Bool.{cases_lt, and_parts, cond_both, both_ways, cases_eq, eq-eqb, ne_eqb, leb-true, not-true, or_right, or_from}
 use Rattle.row.specs.Texts.{padded}
 use Rattle.row.specs.declared.fault.Refusal.{Refusal}
 use Rattle.tlcp.specs.Dividing.{joined_by}
@@ -16,8 +16,8 @@ use Rattle.requests.specs.Names.{index_of, is_in, parameter_count, parameters_of
 use Rattle.requests.specs.declared.name.Name.{Name}
 use Rattle.requests.specs.declared.name.Parameter.{Parameter}
 use Rattle.compose.specs.Written.{Assignment, given_by, head_text, pair_text, written}
-use Rattle.compose.specs.Drafts.{Draft, fresh, is_fresh, is_open, addition, has_room, with_pair, open_answer, bad_part, add_answer, add_to, closed, ending, request_len, left_by, length_or}
-use Rattle.compose.specs.Held.{Stands, Holds, finish_answer, finish_bytes, pairs_after}
+use Rattle.compose.specs.Drafts.{Draft, fresh, is_fresh, is_open, addition, has_room, with_pair, open_answer, bad_part, add_answer, add_to, closed, ending, request_len, left_by, length_or, begin, unbegun}
+use Rattle.compose.specs.Held.{Holds, Tally, finish_answer, finish_bytes, pairs_after}
 
 pub length-padded : (n : ℕ) (t : List ℕ) → length t ≤ n → length (padded n t) ≡ n
 length-padded n t h = simp (length-append, length-replicate) (omega arith)
@@ -131,19 +131,36 @@ holds-fresh name n room =
     record {
       begun = refl;
       unkept = refl;
-      request = record {
-        text = sym (λ i. padded (length-padded n (head_text name) room i) (head i));
+      text = sym (λ i. padded (length-padded n (head_text name) room i) (head i));
+      tally = record {
         size = ap length (sym head);
+        places = refl;
+        added = λ p. none p;
+        fit = record { known = tt; apart = tt; short = tt };
       };
-      places = refl;
-      added = λ p. none p;
-      fit = record { known = tt; apart = tt; short = tt };
     }
   where
     none : (p : Parameter) → get_or (replicate parameter_count false) (index_of p) false ≡ false
     none p = ⊎_elim (get_or-replicate parameter_count (index_of p) false false)
         (get_or_past (replicate parameter_count false) (index_of p) false)
         (cases_lt (index_of p) parameter_count)
+
+-- a request that was just begun has no pairs
+pub begin-tally : (name : Name) (out : List ℕ) (d : Draft) → d ≡ begin name out → d.begun ≡ true
+    → Tally d.name d.len d.given []
+begin-tally name out d is =
+    coe 1 0 (i. (is i).begun ≡ true → Tally (is i).name (is i).len (is i).given [])
+    (by (fits 0 (head_text name) out) refl)
+  where
+    by : (b : Bool) → fits 0 (head_text name) out ≡ b
+        → (cond b (fresh name (length out)) (unbegun name out)).begun ≡ true
+        → Tally (cond b (fresh name (length out)) (unbegun name out)).name
+        (cond b (fresh name (length out)) (unbegun name out)).len
+        (cond b (fresh name (length out)) (unbegun name out)).given []
+    by true fit h =
+        let room : length (head_text name) ≤ length out = omega (arith, leb-true _ _ fit) in
+        (holds-fresh name (length out) room).tally
+    by false fit h = absurd (both_ways false refl h)
 
 -- a request is finished with its length
 pub finished-length : (d : Draft) → length_or (ending d) ≡ request_len d.name d.begun d.len
@@ -165,34 +182,15 @@ ok-finished d = by (request_len d.name d.begun d.len)
     by (Err e) = refl
 
 -- one more pair
-module _ (d : Draft) (x : Assignment) (xs : List Assignment) (h : Holds d xs) where
+module _ (d : Draft) (x : Assignment) (xs : List Assignment)
+    (h : Tally d.name d.len d.given xs) where
   text-more : written d.name xs ++ addition d x ≡ written d.name (xs ++ x ∷ [])
   text-more = ap (λ b. written d.name xs ++ pair_text b x)
-      (fresh-none d.name xs d.len h.request.size) ∙ sym (written-push d.name xs x)
+      (fresh-none d.name xs d.len h.size) ∙ sym (written-push d.name xs x)
 
   pub size-more : d.len + length (addition d x) ≡ length (written d.name (xs ++ x ∷ []))
-  size-more = ap (λ k. k + length (addition d x)) h.request.size
+  size-more = ap (λ k. k + length (addition d x)) h.size
       ∙ sym (length-append (written d.name xs) (addition d x)) ∙ ap length text-more
-
-  stands-more : d.len + length (addition d x) ≤ length d.bytes
-      → Stands d.name (xs ++ x ∷ []) (with_pair d x).bytes (with_pair d x).len
-  stands-more room =
-      let t = written d.name xs in
-      let u = addition d x in
-      let n = length d.bytes in
-      let both = length-append t u in
-      let size = h.request.size in
-      let fit : length (t ++ u) ≤ n = omega arith in
-      let bytes : placed d.len u d.bytes
-      ≡ padded n (t ++ u) = (λ i. placed (size i) u (h.request.text i))
-      ∙ placed-padded n t u fit in
-      let long : length (placed d.len u d.bytes) ≡ n = ap length bytes
-      ∙ length-padded n (t ++ u) fit in
-      record {
-        text = bytes ∙ ap (padded n) text-more
-            ∙ ap (λ k. padded k (written d.name (xs ++ x ∷ []))) (sym long);
-        size = size-more;
-      }
 
   added_more : index_of x.parameter < parameter_count → (p : Parameter)
       → get_or (with_pair d x).given (index_of p) false
@@ -213,17 +211,15 @@ module _ (d : Draft) (x : Assignment) (xs : List Assignment) (h : Holds d xs) wh
       ∙ sym (here ∙ ap (λ b. old || b) (ne_eqb (index_of p) i other) ∙ or-none old))
       (cases_eq (index_of p) i)
 
-  pub holds_more : index_of x.parameter < parameter_count → is_open d x.parameter ≡ true
-      → has_room d x ≡ true → Holds (with_pair d x) (xs ++ x ∷ [])
-  holds_more small new room =
-      let (short, fit) = and_parts (leb (length x.value) value_limit)
-      (fits d.len (addition d x) d.bytes) room in
+  pub tally-more : index_of x.parameter < parameter_count → is_open d x.parameter ≡ true
+      → has_room d x ≡ true
+      → Tally d.name (with_pair d x).len (with_pair d x).given (xs ++ x ∷ [])
+  tally-more small new room =
+      let short = (and_parts (leb (length x.value) value_limit) _ room).0 in
       let (known, unset) = and_parts (is_in x.parameter (parameters_of d.name)) _ new in
       let other = sym (h.added x.parameter) ∙ not-true _ unset in
       record {
-        begun = h.begun;
-        unkept = h.unkept;
-        request = stands-more (leb-true _ _ fit);
+        size = size-more;
         places = length-set d.given (index_of x.parameter) true ∙ h.places;
         added = added_more small;
         fit = record {
@@ -234,6 +230,48 @@ module _ (d : Draft) (x : Assignment) (xs : List Assignment) (h : Holds d xs) wh
           short = all-push (λ y. length y.value ≤ value_limit) xs x h.fit.short
               (leb-true _ _ short);
         };
+      }
+
+  -- whatever a call makes of the draft, its length and marks are those of some pairs
+  pub tally-after : (e : Draft) → index_of x.parameter < parameter_count → e ≡ add_to d x
+      → (ys : List Assignment) × Tally e.name e.len e.given ys
+  tally-after e small is =
+      coe 1 0 (i. (ys : List Assignment) × Tally (is i).name (is i).len (is i).given ys)
+      (cond_both (d.begun && (is_open d x.parameter && has_room d x)) (with_pair d x) d
+      (λ f. (ys : List Assignment) × Tally f.name f.len f.given ys)
+      (λ adds.
+      let some = (and_parts d.begun _ adds).1 in
+      let (new, room) = and_parts (is_open d x.parameter) _ some in
+      (xs ++ x ∷ [], tally-more small new room)) (λ _. (xs, h)))
+
+module _ (d : Draft) (x : Assignment) (xs : List Assignment) (h : Holds d xs) where
+  text-placed : d.len + length (addition d x) ≤ length d.bytes
+      → (with_pair d x).bytes ≡ padded (length (with_pair d x).bytes)
+      (written d.name (xs ++ x ∷ []))
+  text-placed room =
+      let t = written d.name xs in
+      let u = addition d x in
+      let n = length d.bytes in
+      let both = length-append t u in
+      let size = h.tally.size in
+      let fit : length (t ++ u) ≤ n = omega arith in
+      let bytes : placed d.len u d.bytes
+      ≡ padded n (t ++ u) = (λ i. placed (size i) u (h.text i))
+      ∙ placed-padded n t u fit in
+      let long : length (placed d.len u d.bytes) ≡ n = ap length bytes
+      ∙ length-padded n (t ++ u) fit in
+      bytes ∙ ap (padded n) (text-more d x xs h.tally)
+      ∙ ap (λ k. padded k (written d.name (xs ++ x ∷ []))) (sym long)
+
+  pub holds_more : index_of x.parameter < parameter_count → is_open d x.parameter ≡ true
+      → has_room d x ≡ true → Holds (with_pair d x) (xs ++ x ∷ [])
+  holds_more small new room =
+      let fit = (and_parts (leb (length x.value) value_limit) _ room).1 in
+      record {
+        begun = h.begun;
+        unkept = h.unkept;
+        text = text-placed (leb-true _ _ fit);
+        tally = tally-more d x xs h.tally small new room;
       }
 
   -- whatever a call answers
@@ -263,7 +301,7 @@ holds-finished d xs h =
     let r = request_len d.name d.begun d.len in
     let is : r ≡ cond (is_none xs) (Err bad_part) (Ok d.len) =
     ap (λ b. cond b (cond (is_fresh d) (Err bad_part) (Ok d.len)) (Err no_room)) h.begun
-    ∙ ap (λ b. cond b (Err bad_part) (Ok d.len)) (fresh-none d.name xs d.len h.request.size) in
+    ∙ ap (λ b. cond b (Err bad_part) (Ok d.len)) (fresh-none d.name xs d.len h.tally.size) in
     let left : left_by (closed d)
     ≡ cond (not (is_ok (cond (is_none xs) (Err bad_part) (Ok d.len))))
     (replicate (length d.bytes) 0) d.bytes =
@@ -280,6 +318,6 @@ holds-finished d xs h =
         × (left_by (closed d) ≡ finish_bytes d.name ys (length d.bytes))
     by [] same answer bytes = (answer, bytes)
     by (y ∷ ys) same answer bytes = (
-      answer ∙ ap Ok (h.request.size ∙ ap (λ l. length (written d.name l)) (sym same)),
-      bytes ∙ h.request.text ∙ ap (λ l. padded (length d.bytes) (written d.name l)) (sym same),
+      answer ∙ ap Ok (h.tally.size ∙ ap (λ l. length (written d.name l)) (sym same)),
+      bytes ∙ h.text ∙ ap (λ l. padded (length d.bytes) (written d.name l)) (sym same),
     )

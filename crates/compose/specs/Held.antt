@@ -1,5 +1,5 @@
 -- Which pairs the bytes of a request hold.
-use Rattle.std.specs.Prelude.{◌≡◌, ℕ, ◌≤◌, true, false, List, [], ◌∷◌, ◌++◌, map, length, replicate, is_some, Ok, Err, Result, slice_index_or}
+use Rattle.std.specs.Prelude.{◌≡◌, ℕ, ◌≤◌, Bool, true, false, List, [], ◌∷◌, ◌++◌, map, length, replicate, is_some, Ok, Err, Result, slice_index_or}
 use Rattle.std.specs.List.{AllByRecursion}
 use Rattle.row.specs.Texts.{padded}
 use Rattle.row.specs.declared.fault.Refusal.{Refusal}
@@ -11,11 +11,6 @@ use Rattle.requests.specs.declared.name.Parameter.{Parameter}
 use Rattle.compose.specs.Written.{Assignment, given_by, written}
 use Rattle.compose.specs.Drafts.{Draft, bad_part}
 
--- the first n of some bytes are the request with these pairs, and the others are zeros
-pub record Stands (name : Name) (xs : List Assignment) (bytes : List ℕ) (n : ℕ) : Type 0 where
-  pub text : bytes ≡ padded (length bytes) (written name xs)
-  pub size : n ≡ length (written name xs)
-
 -- pairs as a writer takes them: parameters of the name, none of them twice, and values within
 -- their limit
 pub record Writable (name : Name) (xs : List Assignment) : Type 0 where
@@ -23,15 +18,20 @@ pub record Writable (name : Name) (xs : List Assignment) : Type 0 where
   pub apart : Apart (map given_by xs)
   pub short : AllByRecursion (λ x. length x.value ≤ value_limit) xs
 
--- a draft with these pairs: just their parameters were added
+-- a length and marks that are those of these pairs: just their parameters were added
+pub record Tally (name : Name) (len : ℕ) (given : List Bool) (xs : List Assignment) : Type 0 where
+  pub size : len ≡ length (written name xs)
+  pub places : length given ≡ parameter_count
+  pub added : (p : Parameter)
+      → slice_index_or given (index_of p) false ≡ is_some (found (map given_by xs) p)
+  pub fit : Writable name xs
+
+-- a draft with these pairs, and zeros behind them
 pub record Holds (d : Draft) (xs : List Assignment) : Type 0 where
   pub begun : d.begun ≡ true
   pub unkept : d.kept ≡ false
-  pub request : Stands d.name xs d.bytes d.len
-  pub places : length d.given ≡ parameter_count
-  pub added : (p : Parameter)
-      → slice_index_or d.given (index_of p) false ≡ is_some (found (map given_by xs) p)
-  pub fit : Writable d.name xs
+  pub text : d.bytes ≡ padded (length d.bytes) (written d.name xs)
+  pub tally : Tally d.name d.len d.given xs
 
 -- the pairs behind a call that was answered so
 abbrev pub pairs_after : Result (Unit {0}) Refusal → List Assignment → Assignment → List Assignment

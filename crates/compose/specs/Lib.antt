@@ -1,5 +1,6 @@
 pub mod Written
 pub mod Drafts
+pub mod Made
 pub mod Writers
 pub mod Held
 pub mod Composed

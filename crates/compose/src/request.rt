@@ -5,7 +5,7 @@ ghost use Rattle.requests.specs.Limits.{request_limit};
 ghost use Rattle.compose.specs.Written as written;
 ghost use Rattle.compose.specs.Written.{assign, head_text};
 ghost use Rattle.compose.specs.Drafts.{add_answer, add_to, begin, closed, ending, request_len, left_by, length_or};
-ghost use Rattle.compose.specs.Writers.{draft_of, len_of};
+ghost use Rattle.compose.specs.Made.{Made, len_of};
 ghost use Rattle.compose.specs.Held.{Holds, WithinLimit, finish_answer, finish_bytes, pairs_after};
 ghost use Rattle.compose.specs.ReadBack.{ReadsBack};
 
@@ -54,6 +54,8 @@ pub struct RequestWriter<'a> {
     begun: Option<Begun>,
     // set by `finish` alone
     kept: bool,
+    // whatever was called, what is begun holds some pairs as a writer takes them
+    ghost made: { Made name begun },
 }
 
 /// The receipt of a finished request: how many of the bytes it takes, from the first on. The bytes
@@ -64,6 +66,8 @@ pub struct Finished {
 }
 
 impl Drop for RequestWriter<'_> {
+    ghost use Rattle.compose.specs.Writers.{draft_of};
+
     /// Zeroes all the lent bytes, unless `finish` set the kept flag or nothing was written.
     fn drop(self)
         ensures { self.exit.0.now ≡ left_by (draft_of self.entry) }
@@ -83,6 +87,8 @@ impl Drop for RequestWriter<'_> {
 // `lent`, in two contracts, says that the writer still holds the bytes that it was made over; by
 // it a caller knows what its own bytes are when the writer is gone.
 impl<'a> RequestWriter<'a> {
+    ghost use Rattle.compose.specs.Writers.{draft_of};
+
     /// A writer of a request with this name. It zeroes the lent bytes and begins them with the
     /// name and CR LF; bytes that are too few for these it never touches, and each later call is
     /// refused with 16.
@@ -147,8 +153,7 @@ impl<'a> RequestWriter<'a> {
         ensures pairs { (xs : List written.Assignment) → Holds (draft_of self.entry) xs
             → (result_map_both (λ f. f.len) (λ e. e) result ≡ finish_answer self.entry.name xs)
             × (self.exit.0.now ≡ finish_bytes self.entry.name xs (length self.entry.out.now)) }
-        ensures limit { (xs : List written.Assignment) → Holds (draft_of self.entry) xs
-            → IfOk result (λ f. f.len ≤ request_limit) }
+        ensures limit { IfOk result (λ f. f.len ≤ request_limit) }
         ensures within { WithinLimit }
         ensures reads { ReadsBack }
     {

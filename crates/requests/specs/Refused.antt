@@ -57,6 +57,7 @@ pub record Refusals : Type 0 where
   pub no_end : read (codes "control") ≡ refused 2 7
   pub end_turned : read (codes "control" ++ 10 ∷ 13 ∷ codes "LS_reqId=7") ≡ refused 2 19
   pub no_text : read [] ≡ refused 2 0
+  pub end_before_name : read (codes "heartbeat") ≡ refused 2 9
   -- none of the three names: 5 at 0, before all pairs
   pub name : read (request (codes "heartbeat") []) ≡ refused 5 0
   pub name_before_pairs : read (request (codes "Control") (codes "LS_reqId")) ≡ refused 5 0
@@ -95,6 +96,7 @@ pub record Refusals : Type 0 where
   -- then what the operation lacks, 6 at the text's end, and what it does not have, 6 at the
   -- leftmost such pair
   pub lacks : read (control (codes "LS_reqId=7&LS_op=delete")) ≡ refused 6 32
+  pub lacks_before_values : read (control (codes "LS_reqId=-&LS_op=delete")) ≡ refused 6 32
   pub lacks_before_has : read (control (codes "LS_schema=all&LS_reqId=7&LS_op=delete"))
       ≡ refused 6 46
   pub has : read (control (codes "LS_reqId=7&LS_op=force_rebind&LS_subId=1")) ≡ refused 6 39

@@ -54,7 +54,8 @@ impl Occurrences {
 
     // Reads a pair.
     pub(crate) fn add(&mut self, name: Name, pair: Part<'_>) -> Result<(), Refusal>
-        ensures { result_map_both (λ _. occurrences_in self.new) (λ e. e) result ≡ read_pair name pair.entry.at pair.entry.bytes.now (occurrences_in self.old) }
+        ensures { result_map_both (λ _. occurrences_in self.new) (λ e. e) result
+            ≡ read_pair name pair.entry.at pair.entry.bytes.now (occurrences_in self.old) }
     {
         let (word, value) = pair.cut(b'=');
         let value = value.ok_or(Fault::Shape.at(pair.at))?;
@@ -116,7 +117,8 @@ impl Occurrences {
 
 // Reads the pairs of a request's body.
 pub(crate) fn read_pairs(body: Part<'_>, name: Name) -> Result<Occurrences, Refusal>
-    ensures { result_map_both occurrences_in (λ e. e) result ≡ read_pairs name body.entry.at (divided_by 38 body.entry.bytes.now) no_occurrences }
+    ensures { result_map_both occurrences_in (λ e. e) result
+        ≡ read_pairs name body.entry.at (divided_by 38 body.entry.bytes.now) no_occurrences }
 {
     let mut pairs = Occurrences::NONE;
     let mut left = Some(body);

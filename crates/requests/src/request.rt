@@ -51,7 +51,8 @@ pub enum Request {
 impl Occurrences {
     // The form of a request of this name, if its first needs are given.
     fn form(&self, name: Name, end: usize) -> Result<Form, Refusal>
-        ensures { result ≡ (if lacks (first_needs name) (occurrences_in self.now) then Err (refusal Parts end) else form_of name (occurrences_in self.now)) }
+        ensures { result ≡ (if lacks (first_needs name) (occurrences_in self.now)
+            then Err (refusal Parts end) else form_of name (occurrences_in self.now)) }
     {
         if self.lack(name.first_needs()) {
             return Err(Fault::Parts.at(end));
@@ -68,7 +69,8 @@ impl Occurrences {
 
     // These pairs with a form, if all that it needs is given.
     fn whole(&self, form: Form) -> Option<Whole<'_>>
-        ensures { MatchOption result (lacks (needs form) (occurrences_in self.now) ≡ true) (λ w. (w.form ≡ form) × (w.pairs.now ≡ self.now)) }
+        ensures { MatchOption result (lacks (needs form) (occurrences_in self.now) ≡ true)
+            (λ w. (w.form ≡ form) × (w.pairs.now ≡ self.now)) }
     {
         // no `then`: a closure that makes a `Whole` would have to say by a clause of its own that
         // nothing is missing
@@ -80,7 +82,8 @@ impl Occurrences {
 
     // What the pairs ask for in this form, if they are just what it takes.
     fn read_form(&self, form: Form, end: usize, session: u32) -> Result<Request, Refusal>
-        ensures { result_map_both request_in (λ e. e) result ≡ read_form session end (occurrences_in self.now) form }
+        ensures { result_map_both request_in (λ e. e) result
+            ≡ read_form session end (occurrences_in self.now) form }
     {
         let whole = self.whole(form).ok_or(Fault::Parts.at(end))?;
         if let Some(at) = self.unfit(form.takes()) {
@@ -91,7 +94,8 @@ impl Occurrences {
 
     // What the pairs ask for under this name.
     fn read_named(&self, name: Name, end: usize, session: u32) -> Result<Request, Refusal>
-        ensures { result_map_both request_in (λ e. e) result ≡ read_named session end name (occurrences_in self.now) }
+        ensures { result_map_both request_in (λ e. e) result
+            ≡ read_named session end name (occurrences_in self.now) }
     {
         self.read_form(self.form(name, end)?, end, session)
     }

@@ -39,7 +39,8 @@ impl Whole<'_> {
 
     // The ID of a subscription, if the value is one.
     fn subscription(&self) -> Option<u32>
-        ensures { result ≡ read_number 1 id_limit (value_of SubscriptionId (occurrences_in self.now.pairs.now)) }
+        ensures { result
+            ≡ read_number 1 id_limit (value_of SubscriptionId (occurrences_in self.now.pairs.now)) }
     {
         let id = self.pairs.word(Parameter::SubscriptionId)?;
         read_number(id.text(), Limits::ID)
@@ -47,7 +48,8 @@ impl Whole<'_> {
 
     // What the pairs ask for in the form, if it takes their values.
     pub(crate) fn request(&self, session: u32) -> Result<Request, Refusal>
-        ensures { result_map_both request_in (λ e. e) result ≡ fitting_or session self.now.form (occurrences_in self.now.pairs.now) None }
+        ensures { result_map_both request_in (λ e. e) result
+            ≡ fitting_or session self.now.form (occurrences_in self.now.pairs.now) None }
     {
         self.check(session)?;
         let pairs = self.pairs;
