@@ -1,4 +1,5 @@
-//! Waiting buffers: scripted runs of all kinds, as tests; a kind of one pair; and what no kind may be.
+//! Waiting buffers: scripted runs of all kinds, as tests; a kind of one pair; and what no kind may
+//! be.
 #![tactic(auto)]
 
 mod impostors;

@@ -22,7 +22,8 @@ pub(crate) const NOTHING: Result<(), Refusal> = Err(Refusal {
     place: 0,
 });
 
-// What is done to a buffer, and what it has to answer. After each step it is looked at, and its pairs are counted.
+// What is done to a buffer, and what it has to answer. After each step it is looked at, and its
+// pairs are counted.
 #[derive(Clone, Copy)]
 pub(crate) enum Act<'s> {
     Put(usize, Spelling<'s>, Result<(), Refusal>),
@@ -39,8 +40,8 @@ pub(crate) enum Act<'s> {
     Turn,
 }
 
-// What waits in it then: what waited in it before, nothing, the same list in each kind of buffer, or one in a queue and another
-// in marks.
+// What waits in it then: what waited in it before, nothing, the same list in each kind of buffer,
+// or one in a queue and another in marks.
 #[derive(Clone, Copy)]
 pub(crate) enum Waits<'s> {
     Still,
@@ -71,13 +72,13 @@ impl Layout {
         }
     }
 
-    // The delta in a row of a buffer's memory, if it is known: the pair in that place, or that of the row's tap.
-    fn row<'s>(self, list: List<'s>, i: usize) -> Option<Spelling<'s>> {
+    // The delta in a row of a buffer's memory: the pair in that place, or that of the row's tap.
+    fn row<'s>(self, list: List<'s>, i: usize) -> Spelling<'s> {
         let pair = match self {
             Layout::Queue => list.get(i),
             Layout::Marks => list.iter().find(|(tap, _)| *tap == i.saturating_add(1)),
         };
-        Some(pair.map_or(b"", |(_, text)| *text))
+        pair.map_or(b"", |(_, text)| *text)
     }
 }
 
@@ -97,8 +98,8 @@ fn check_first<R: Sample, W: Waiting<R>>(
     check_delta(rt, step, pair.delta, text)
 }
 
-// The buffer shows the first pair of the list, and its memory holds all of them; a copy of it shows and drops one after
-// another, and then holds nothing.
+// The buffer shows the first pair of the list, and its memory holds all of them; a copy of it shows
+// and drops one after another, and then holds nothing.
 fn check_list<'a, R: Sample, W: OverSlice<'a, R>>(
     rt: &impl Abort,
     step: usize,
@@ -179,7 +180,8 @@ fn perform<R: Sample, W: Waiting<R>>(
     Ok(())
 }
 
-// Each row of a buffer's memory holds the delta of its pair, and same where it has none, each change by its own record.
+// Each row of a buffer's memory holds the delta of its pair, and same where it has none, each
+// change by its own record.
 fn check_memory<R: Sample>(
     rt: &impl Abort,
     layout: Layout,
@@ -187,9 +189,7 @@ fn check_memory<R: Sample>(
     list: List<'_>,
 ) -> Result<(), Fail> {
     for (i, row) in changes.chunks(FIELD_LIMIT).enumerate() {
-        if let Some(text) = layout.row(list, i) {
-            check_delta(rt, i, row, text)?;
-        }
+        check_delta(rt, i, row, layout.row(list, i))?;
     }
     Ok(())
 }
@@ -224,8 +224,8 @@ impl<R: Sample> Memory<R> {
     }
 }
 
-// Plays a script on two buffers, the first to begin with, and answers what waits in each at the end: the script turns to the
-// first again.
+// Plays a script on two buffers, the first to begin with, and answers what waits in each at the
+// end: the script turns to the first again.
 pub(crate) fn play<'a, 's, R: Sample, W: OverSlice<'a, R>>(
     rt: &impl Abort,
     alloc: Global,

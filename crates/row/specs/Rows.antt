@@ -1,5 +1,5 @@
 -- Rows, deltas and joining, and a row among those of all taps. A value is known by its text, so a cell holds a text here, a list of bytes.
-use Rattle.std.specs.Prelude.{ℕ, ◌+◌, ◌*◌, Bool, true, false, List, [], ◌∷◌, ◌++◌, take, drop, replicate}
+use Rattle.std.specs.Prelude.{ℕ, ◌-◌, ◌+◌, ◌*◌, Bool, true, false, List, [], ◌∷◌, ◌++◌, length, take, drop, replicate}
 use Rattle.std.specs.List.{list_all}
 use Rattle.row.specs.Limits.{field_limit}
 
@@ -37,6 +37,10 @@ join = over join_change
 -- the join of no deltas
 abbrev pub blank : List Change
 blank = replicate field_limit same
+
+-- a delta in all the places of a row: same behind its fields
+abbrev pub filled : List Change → List Change
+filled d = d ++ replicate (field_limit - length d) same
 
 abbrev pub is_same : Change → Bool
 is_same same = true

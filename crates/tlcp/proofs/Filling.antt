@@ -8,7 +8,8 @@ use Rattle.row.specs.Records.{change_record}
 use Rattle.row.specs.Rows.{Change, same}
 use Rattle.row.specs.declared.change.Change as memory
 use Rattle.row.specs.declared.fault.Refusal.{Refusal}
-use Rattle.tlcp.specs.Held.{filled, size, size_or, slot_after}
+use Rattle.row.specs.Rows.{filled}
+use Rattle.tlcp.specs.Held.{size, size_or, slot_after}
 use Rattle.row.specs.Faults.{moved}
 use Rattle.tlcp.specs.Lists.{Meant, sames, one, values, read_value, read_values, take_meant, ahead, uncovered}
 use Rattle.tlcp.proofs.Reading.{refused}

@@ -6,14 +6,10 @@ use Rattle.row.specs.Limits.{field_limit}
 use Rattle.row.specs.Records as records
 use Rattle.row.specs.Records.{memory_refusal}
 use Rattle.row.specs.Rows as rows
-use Rattle.row.specs.Rows.{same}
+use Rattle.row.specs.Rows.{filled}
 use Rattle.row.specs.declared.change.Change.{Change}
 use Rattle.row.specs.declared.fault.Refusal.{Refusal}
 use Rattle.tlcp.specs.Lists.{Meant, sames, one}
-
--- a delta with same in the places behind its fields
-abbrev pub filled : List rows.Change → List rows.Change
-filled d = d ++ replicate (field_limit - length d) same
 
 module _ {R : Type 0} (k : Kind R) where
   -- the change of the first field that a value speaks of, which was c

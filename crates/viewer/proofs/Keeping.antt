@@ -12,7 +12,7 @@ use Rattle.row.specs.Limits.{field_limit, tap_limit, cell_limit}
 use Rattle.row.specs.Rows.{Cell, Change, null, same, blank, change_cell, changed, row_at, with_row}
 use Rattle.row.specs.declared.fault.Refusal.{Refusal}
 use Rattle.row.proofs.Joining.{length-over}
-use Rattle.tlcp.specs.Held.{filled}
+use Rattle.row.specs.Rows.{filled}
 use Rattle.tlcp.specs.Lines.{Message, read_line}
 use Rattle.tlcp.specs.Lists.{Allowed, read_list}
 use Rattle.tlcp.specs.Parts.{Piece}

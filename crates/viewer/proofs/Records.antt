@@ -16,7 +16,8 @@ use Rattle.row.specs.declared.change.Cell as cells
 use Rattle.row.specs.declared.change.Change as changes
 use Rattle.row.specs.declared.fault.Refusal.{Refusal}
 use Rattle.row.proofs.Joining.{length-over}
-use Rattle.tlcp.specs.Held.{answer_of, filled, held_delta}
+use Rattle.row.specs.Rows.{filled}
+use Rattle.tlcp.specs.Held.{answer_of, held_delta}
 use Rattle.tlcp.specs.Lists.{Allowed, read_list}
 use Rattle.tlcp.specs.Parts.{Piece}
 use Rattle.tlcp.proofs.Reading.{refused}

@@ -8,7 +8,7 @@ use Rattle.std.proofs.ByRecursion.{All-append, All-take, All-drop}
 use Rattle.std.proofs.lemmas.Bool.{cond_both, leb-true}
 use Rattle.row.specs.Limits.{field_limit}
 use Rattle.row.specs.Rows.{Cell, Change, same, becomes, change_cell, changed, row_at, with_row}
-use Rattle.tlcp.specs.Held.{filled}
+use Rattle.row.specs.Rows.{filled}
 use Rattle.tlcp.specs.Lists.{Allowed, Means, Row, unchanged, run, nothing, empty, content, done}
 use Rattle.tlcp.specs.Lists.{next, read_list, values, read_values, uncovered}
 use Rattle.tlcp.proofs.Reading.{refused}

@@ -10,7 +10,7 @@ use Rattle.row.specs.Rows.{Cell, Change, null, blank, changed, row_at, with_row}
 use Rattle.row.specs.declared.change.Cell as cells
 use Rattle.row.specs.declared.change.Change as changes
 use Rattle.row.specs.declared.fault.Refusal.{Refusal}
-use Rattle.tlcp.specs.Held.{filled}
+use Rattle.row.specs.Rows.{filled}
 use Rattle.tlcp.specs.Lines.{Message, read_line}
 use Rattle.tlcp.specs.Lists.{read_list}
 use Rattle.tlcp.specs.Parts.{Piece}

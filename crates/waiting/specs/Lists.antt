@@ -1,5 +1,6 @@
 -- What waits to be sent: pairs of a tap and a delta, in sending order.
-use Rattle.std.specs.Prelude.{ℕ, Bool, true, not, ◌&&◌, List, [], ◌∷◌, map, length, cond, fold, filter, flat_map, ◌==◌}
+use Rattle.std.specs.Prelude.{ℕ, Bool, true, not, ◌&&◌, List, [], ◌∷◌, map, length, cond, fold}
+use Rattle.std.specs.Prelude.{filter, flat_map, ◌==◌}
 use Rattle.row.specs.Limits.{field_limit}
 use Rattle.row.specs.Rows.{Cell, Change, null, value, same, becomes, join, blank, all_same}
 use Rattle.row.specs.Taps.{is_tap}
@@ -27,10 +28,6 @@ cell_allowed allowed (value t) = allowed t
 abbrev pub change_allowed : (List ℕ → Bool) → Change → Bool
 change_allowed allowed same = true
 change_allowed allowed (becomes c) = cell_allowed allowed c
-
--- a delta of up to twelve changes in all the places of a row: same behind its own
-abbrev pub widened : List Change → List Change
-widened d = join blank d
 
 -- the deltas that wait for a tap, in order
 abbrev pub waiting_for : ℕ → List Pair → List (List Change)

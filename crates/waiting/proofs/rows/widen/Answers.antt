@@ -2,7 +2,7 @@ use Rattle.std.proofs.Common.{◌≤◌, ◌++◌, map, length, drop, replicate,
 use Rattle.std.proofs.lemmas.Bool.{cond-true, le-leb}
 use Rattle.row.specs.Limits.{field_limit}
 use Rattle.row.specs.Records.{canonical}
-use Rattle.waiting.proofs.Canonical.{widened-records}
+use Rattle.waiting.proofs.Canonical.{filled-records}
 use Rattle.waiting.proofs.rows.widen.Goals as goal
 
 pub returns : goal.returns
@@ -11,6 +11,7 @@ returns g c =
     let ds = c.args.delta.now in
     let few : length ds ≤ field_limit = omega arith in
     ap Ok (c.canonicalize.ensures.changes
-    ∙ (λ j. map (canonical k) (c.copy_from_slice.ensures.after j ++ drop (length ds) (replicate field_limit (c.same-whole.ensures j))))
-    ∙ widened-records k ds few)
+    ∙ (λ j. map (canonical k) (c.copy_from_slice.ensures.after j ++ drop (length ds)
+    (replicate field_limit (c.same-whole.ensures j))))
+    ∙ filled-records k ds few)
     ∙ sym (cond-true _ _ _ (le-leb (length ds) field_limit few))
