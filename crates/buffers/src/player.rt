@@ -55,6 +55,8 @@ pub(crate) type Script<'s> = &'s [(Act<'s>, Waits<'s>)];
 #[derive(Clone, Copy)]
 pub(crate) enum Layout {
     Queue,
+    // lists as a queue, and says nothing of its memory
+    Ring,
     Marks,
 }
 
@@ -65,7 +67,7 @@ impl Layout {
             Waits::Empty => &[],
             Waits::Both(list) => list,
             Waits::Each(in_queue, in_marks) => match self {
-                Layout::Queue => in_queue,
+                Layout::Queue | Layout::Ring => in_queue,
                 Layout::Marks => in_marks,
             },
         }
@@ -75,6 +77,7 @@ impl Layout {
     fn row<'s>(self, list: List<'s>, i: usize) -> Option<Spelling<'s>> {
         let pair = match self {
             Layout::Queue => list.get(i),
+            Layout::Ring => return None,
             Layout::Marks => list.iter().find(|(tap, _)| *tap == i.saturating_add(1)),
         };
         Some(pair.map_or(b"", |(_, text)| *text))
