@@ -1,5 +1,7 @@
 -- A list of one pair, and the memory that holds it.
-use Rattle.std.proofs.Common.{◌≡◌, ℕ, true, false, not, cond, nat_le, List, [], ◌∷◌, ◌++◌, map, length, take, Option, Some, None, Ok, Err, Result, sym, refl, ap, ◌∙◌, arith}
+use Rattle.std.proofs.Common.{◌≡◌, ℕ, true, false, not, cond, nat_le, List, [], ◌∷◌, ◌++◌, map}
+use Rattle.std.proofs.Common.{length, take, Option, Some, None, Ok, Err, Result, sym, refl, ap, ◌∙◌}
+use Rattle.std.proofs.Common.{arith}
 use Rattle.std.specs.Prelude.{◌==◌}
 use Rattle.std.specs.Option.{option_to_list}
 use Rattle.std.proofs.lemmas.List.{append-nil, take_all, length-map}
@@ -21,10 +23,14 @@ use Rattle.waiting.proofs.Canonical.{length-widened, widened-means, widened-part
 module _ {R : Type 0} (k : Kind R) (law : Lawful k) (ds w cs new : List (Change R)) (is : w ≡ widened_changes k ds) (one : length cs ≡ field_limit) (copied : new ≡ cond (length w == length cs) w cs) where
   -- the memory is the row that was put
   new-is : new ≡ widened_changes k ds
-  new-is = copied ∙ cond-true (length w == length cs) w cs (eq-eqb (length w) (length cs) (ap length is ∙ length-widened k ds ∙ sym one)) ∙ is
+  new-is =
+      copied ∙ cond-true (length w == length cs) w cs
+      (eq-eqb (length w) (length cs) (ap length is ∙ length-widened k ds ∙ sym one)) ∙ is
 
   row-is : take field_limit new ≡ widened_changes k ds
-  row-is = ap (take field_limit) new-is ∙ take_all field_limit (widened_changes k ds) (omega (arith, length-widened k ds))
+  row-is =
+      ap (take field_limit) new-is ∙ take_all field_limit (widened_changes k ds)
+      (omega (arith, length-widened k ds))
 
   row-means : map (change_of k) (take field_limit new) ≡ widened (map (change_of k) ds)
   row-means = ap (map (change_of k)) row-is ∙ widened-means k law ds
@@ -33,33 +39,53 @@ module _ {R : Type 0} (k : Kind R) (law : Lawful k) (ds w cs new : List (Change 
   pub exact-one : (t : ℕ) → Exact k (rows_of 1) new (pairs_in k (t ∷ []) new)
   exact-one t =
       let e = map (change_of k) (take field_limit new) in
-      new-is ∙ ap (map (change_record k)) (sym row-means ∙ sym (append-nil e) ∙ sym (append-nil (e ++ [])))
+      new-is ∙ ap (map (change_record k))
+      (sym row-means ∙ sym (append-nil e) ∙ sym (append-nil (e ++ [])))
 
   -- the list where nothing waited, and now one pair does
-  pub put-one : (old : Option ℕ) (t : ℕ) → nat_le (length ds) field_limit ≡ true → (queue_of 1).takes (pairs_in k (option_to_list old) cs) t ≡ true → all_same (map (change_of k) w) ≡ false → pairs_in k (t ∷ []) new ≡ after_put (queue_of 1) (pairs_in k (option_to_list old) cs) t (map (change_of k) ds)
+  pub put-one :
+      (old : Option ℕ) (t : ℕ) → nat_le (length ds) field_limit ≡ true
+      → (queue_of 1).takes (pairs_in k (option_to_list old) cs) t ≡ true
+      → all_same (map (change_of k) w) ≡ false
+      → pairs_in k (t ∷ []) new
+      ≡ after_put (queue_of 1) (pairs_in k (option_to_list old) cs) t (map (change_of k) ds)
   put-one None t few taken changes =
       let d = widened (map (change_of k) ds) in
-      let some : all_same d ≡ false = ap all_same (sym (widened-means k law ds) ∙ ap (map (change_of k)) (sym is)) ∙ changes in
+      let some : all_same d ≡ false = ap all_same
+      (sym (widened-means k law ds) ∙ ap (map (change_of k)) (sym is)) ∙ changes in
       ap (λ e. pair t e ∷ []) row-means
-      ∙ sym (cond-true _ _ _ (and_from _ _ (ap (λ n. nat_le n field_limit) (length-map ds (change_of k)) ∙ few) refl) ∙ cond-false (all_same d) [] (pair t d ∷ []) some)
+      ∙ sym (cond-true _ _ _ (and_from _ _
+      (ap (λ n. nat_le n field_limit) (length-map ds (change_of k)) ∙ few) refl) ∙ cond-false
+      (all_same d) [] (pair t d ∷ []) some)
   put-one (Some u) t few taken changes = absurd cc
 
   -- its row has a change that is not same
   pub busy-one : all_same (map (change_of k) w) ≡ false → rows_wait k 1 new ≡ true
   busy-one changes =
-      and_from _ true (ap (λ r. not (all_same (map (change_of k) r))) (row-is ∙ sym is) ∙ ap not changes) refl
+      and_from _ true (ap (λ r. not (all_same (map (change_of k) r))) (row-is ∙ sym is)
+      ∙ ap not changes) refl
 
 -- the records of changes are same where the changes are
-same-records : {R : Type 0} (k : Kind R) (d : List rows.Change) → all_same (map (change_of k) (map (change_record k) d)) ≡ all_same d
+same-records :
+    {R : Type 0} (k : Kind R) (d : List rows.Change)
+    → all_same (map (change_of k) (map (change_record k) d)) ≡ all_same d
 same-records k [] = refl
 same-records k (same ∷ d) = same-records k d
 same-records k (becomes null ∷ d) = refl
 same-records k (becomes (value t) ∷ d) = refl
 
 -- a delta that leaves each cell as it is leaves a queue as it is
-pub put_same : {R : Type 0} (k : Kind R) (ds w : List (Change R)) (r : Result (List (Change R)) Refusal) (limit : ℕ) (l : List Pair) (t : ℕ) → r ≡ cond (nat_le (length ds) field_limit) (Ok (widened_changes k ds)) (Err memory_refusal) → r ≡ Ok w → true ≡ all_same (map (change_of k) w) → l ≡ after_put (queue_of limit) l t (map (change_of k) ds)
+pub put_same :
+    {R : Type 0} (k : Kind R) (ds w : List (Change R)) (r : Result (List (Change R)) Refusal)
+    (limit : ℕ) (l : List Pair) (t : ℕ)
+    → r ≡ cond (nat_le (length ds) field_limit) (Ok (widened_changes k ds)) (Err memory_refusal)
+    → r ≡ Ok w → true ≡ all_same (map (change_of k) w)
+    → l ≡ after_put (queue_of limit) l t (map (change_of k) ds)
 put_same k ds w r limit l t e was all =
     let d = widened (map (change_of k) ds) in
     let is = (widened-parts k ds w r e was).1 in
-    let none : all_same d ≡ true = sym (same-records k d) ∙ ap (λ x. all_same (map (change_of k) x)) (sym is) ∙ sym all in
-    cond_both _ (l ++ pair_of_changes t d) l (λ x. l ≡ x) (λ _. sym (ap (λ m. l ++ m) (cond-true (all_same d) [] (pair t d ∷ []) none) ∙ append-nil l)) (λ _. refl)
+    let none : all_same d ≡ true = sym (same-records k d) ∙ ap (λ x. all_same (map (change_of k) x))
+    (sym is) ∙ sym all in
+    cond_both _ (l ++ pair_of_changes t d) l (λ x. l ≡ x)
+    (λ _. sym (ap (λ m. l ++ m) (cond-true (all_same d) [] (pair t d ∷ []) none) ∙ append-nil l))
+    (λ _. refl)

@@ -1,20 +1,23 @@
 -- The pairs of a ring, by the taps and rows that a queue would have from where it stands.
-use Rattle.std.proofs.Common.{◌≡◌, ◌⊎◌, inl, inr, ⊎_elim, ℕ, zero, suc, ◌+◌, ◌-◌, ◌*◌, ◌%◌, ◌<◌, ◌≤◌, Bool, true, false, cond, ◌&&◌, Err, List, [], ◌∷◌, ◌++◌, map, length, take, drop, set, slice_set, get_or, Ok, sym, refl, ap, ◌∙◌, arith, not-suc-le-zero}
+use Rattle.std.proofs.Common.{◌≡◌, ◌⊎◌, inl, inr, ⊎_elim, ℕ, zero, suc, ◌+◌, ◌-◌, ◌*◌, ◌%◌, ◌<◌, ◌≤◌, Bool, true, false, cond, ◌&&◌, Err, List, [], ◌∷◌, ◌++◌, map, length, take, drop, not, nat_le, subst, append_assoc, set, slice_set, get_or, Ok, sym, refl, ap, ◌∙◌, arith, not-suc-le-zero}
 use Rattle.std.specs.Prelude.{◌==◌}
-use Rattle.std.proofs.lemmas.Bool.{and_from, cases_lt, cond-true, eq-eqb, le-leb}
+use Rattle.std.proofs.lemmas.Bool.{and_from, and_parts, cases_lt, cond-true, eq-eqb, le-leb}
 use Rattle.row.specs.Faults.{refusal}
 use Rattle.row.specs.declared.fault.Fault.TheVariants.{Absent}
-use Rattle.std.proofs.lemmas.List.{length-drop, length-take-le, take-append-le, drop-drop, drop_more, length-set}
+use Rattle.std.proofs.lemmas.List.{length-drop, length-take-le, take-append-le, drop-drop, drop_more, take_more}
+use Rattle.std.proofs.lemmas.List.Elements.{filter-append}
 use Rattle.row.specs.Kinds.{Kind}
 use Rattle.row.specs.Limits.{field_limit}
 use Rattle.row.specs.Records.{change_of}
 use Rattle.row.specs.Rows.{all_same, row_at, with_row}
+use Rattle.row.specs.Taps.{is_tap}
 use Rattle.row.specs.declared.change.Change.{Change}
 use Rattle.waiting.specs.Limits.{pair_limit, queue_limit}
-use Rattle.waiting.specs.Lists.{Pair, pair}
+use Rattle.waiting.specs.Lists.{Pair, pair, is_for, without}
+use Rattle.waiting.specs.ListsLaws.{waits}
 use Rattle.waiting.specs.Policies.{first}
 use Rattle.waiting.specs.QueueLaws.{rows-less}
-use Rattle.waiting.specs.Queues.{pairs_in}
+use Rattle.waiting.specs.Queues.{pairs_in, queue}
 use Rattle.waiting.specs.Rows.{has_row, rows_wait}
 use Rattle.waiting.proofs.QueueRows.{queue-pushed, queue-removed, rows-pushed, rows-removed}
 use Rattle.buffers.specs.Rings.{length-turned}
@@ -103,3 +106,32 @@ pub row-stored : {X : Type 0} (i : ℕ) (cs row new : List X) → field_limit * 
 row-stored i cs row new inside whole e =
     let has = le-leb (field_limit * i + field_limit) (length cs) inside in
     e ∙ cond-true (has_row i cs && length row == field_limit) (with_row i row cs) cs (and_from _ _ has (eq-eqb (length row) field_limit whole))
+
+-- the first pair may wait
+pub first-waits :
+    (l : List Pair) (p : Pair) → queue.holds l ≡ true → first l ≡ Ok p
+    → (is_tap p.tap ≡ true) × (all_same p.delta ≡ false)
+first-waits [] p e f = absurd cc
+first-waits (q ∷ l) p e f =
+    let is : q ≡ p = cc in
+    let w = waits q l (and_parts (nat_le (length (q ∷ l)) pair_limit) _ e).1 in
+    subst (λ x. (is_tap x.tap ≡ true) × (all_same x.delta ≡ false)) is (w.known, w.changing)
+
+-- the list once its first n pairs went behind the others, or went for good
+abbrev pub without-turned : ℕ → ℕ → List Pair → List Pair
+without-turned t n l = drop n l ++ without t (take n l)
+
+pub without-next :
+    (t n : ℕ) (l : List Pair) → n < length l
+    → drop 1 (without-turned t n l) ++ without t (take 1 (without-turned t n l))
+    ≡ without-turned t (n + 1) l
+without-next t n [] h = absurd (not-suc-le-zero h)
+without-next t n (q ∷ l) h =
+    let all = q ∷ l in
+    let p = get_or all n q in
+    let first : without-turned t n all ≡ p ∷ (drop (n + 1) all ++ without t (take n all)) =
+        ap (λ x. x ++ without t (take n all)) (drop_more all n q h) in
+    ap (λ x. drop 1 x ++ without t (take 1 x)) first
+    ∙ append_assoc (drop (n + 1) all) (without t (take n all)) (without t (p ∷ []))
+    ∙ ap (λ x. drop (n + 1) all ++ x) (sym (filter-append (λ r. not (is_for t r)) (take n all) (p ∷ [])))
+    ∙ ap (λ x. drop (n + 1) all ++ without t x) (sym (take_more all n q h))

@@ -10,7 +10,8 @@ use Rattle.waiting.specs.Policies.{Policy, Meaning, Put, Lawful, nothing_waits, 
 
 -- what is put and taken leaves the list as it is
 abbrev pub DropsAll : Policy → Type 0
-DropsAll b = (m : Meaning) (t : ℕ) (d : List Change) → Put b m t d → listed (b.after m t d) ≡ listed m
+DropsAll b =
+    (m : Meaning) (t : ℕ) (d : List Change) → Put b m t d → listed (b.after m t d) ≡ listed m
 
 -- nothing is ever taken, for any tap
 abbrev pub RefusesAll : Policy → Type 0
@@ -20,9 +21,12 @@ pub not-dropping : (b : Policy) → DropsAll b → ¬ (Lawful b)
 not-dropping b drops law =
     let d = replicate field_limit (becomes null) in
     let taken = law.empty-takes nothing_waits 1 refl refl in
-    let put : Put b nothing_waits 1 d = record { holdable = law.empty-holds; known = refl; whole = refl; taken = taken } in
-    both_ways false refl (sym (ap all_same (sym (ap (joined 1) (drops nothing_waits 1 d put)) ∙ law.own-join nothing_waits 1 d put)))
+    let put : Put b nothing_waits 1 d =
+    record { holdable = law.empty-holds; known = refl; whole = refl; taken = taken } in
+    both_ways false refl (sym (ap all_same
+    (sym (ap (joined 1) (drops nothing_waits 1 d put)) ∙ law.own-join nothing_waits 1 d put)))
 
 pub not-refusing : (b : Policy) → RefusesAll b → ¬ (Lawful b)
 not-refusing b refuses law =
-    both_ways (b.takes nothing_waits 1) (refuses nothing_waits 1 refl) (law.empty-takes nothing_waits 1 refl refl)
+    both_ways (b.takes nothing_waits 1) (refuses nothing_waits 1 refl)
+    (law.empty-takes nothing_waits 1 refl refl)

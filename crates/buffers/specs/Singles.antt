@@ -23,7 +23,11 @@ few : (tap : Option ℕ) → length (option_to_list tap) ≤ 1
 few None = omega arith
 few (Some t) = omega arith
 
-pub single-holds : {R : Type 0} (k : Kind R) (tap : Option ℕ) (cs : List (Change R)) → length cs ≡ field_limit → list_all is_tap (option_to_list tap) ≡ true → rows_wait k (length (option_to_list tap)) cs ≡ true → (queue_of 1).holds (pairs_in k (option_to_list tap) cs) ≡ true
+pub single-holds :
+    {R : Type 0} (k : Kind R) (tap : Option ℕ) (cs : List (Change R)) → length cs ≡ field_limit
+    → list_all is_tap (option_to_list tap) ≡ true
+    → rows_wait k (length (option_to_list tap)) cs ≡ true
+    → (queue_of 1).holds (pairs_in k (option_to_list tap) cs) ≡ true
 single-holds k tap cs whole known busy =
     let one = few tap in
     pairs-hold k 1 (option_to_list tap) cs one (omega arith) known busy

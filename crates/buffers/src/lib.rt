@@ -1,5 +1,5 @@
-//! Waiting buffers: scripted runs of all kinds, as tests; two kinds of its own, a ring and a buffer of one pair; and what no
-//! kind may be.
+//! Waiting buffers: scripted runs of all kinds, as tests; two kinds of its own, a ring and a
+//! buffer of one pair; and what no kind may be.
 #![tactic(auto)]
 
 mod impostors;

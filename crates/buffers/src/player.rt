@@ -22,7 +22,8 @@ pub(crate) const NOTHING: Result<(), Refusal> = Err(Refusal {
     place: 0,
 });
 
-// What is done to a buffer, and what it has to answer. After each step it is looked at, and its pairs are counted.
+// What is done to a buffer, and what it has to answer. After each step it is looked at, and its
+// pairs are counted.
 #[derive(Clone, Copy)]
 pub(crate) enum Act<'s> {
     Put(usize, Spelling<'s>, Result<(), Refusal>),
@@ -39,8 +40,8 @@ pub(crate) enum Act<'s> {
     Turn,
 }
 
-// What waits in it then: what waited in it before, nothing, the same list in each kind of buffer, or one in a queue and another
-// in marks.
+// What waits in it then: what waited in it before, nothing, the same list in each kind of buffer,
+// or one in a queue and another in marks.
 #[derive(Clone, Copy)]
 pub(crate) enum Waits<'s> {
     Still,
@@ -73,7 +74,8 @@ impl Layout {
         }
     }
 
-    // The delta in a row of a buffer's memory, if it is known: the pair in that place, or that of the row's tap.
+    // The delta in a row of a buffer's memory, if the kind says so much: the pair in that place, or
+    // that of the row's tap.
     fn row<'s>(self, list: List<'s>, i: usize) -> Option<Spelling<'s>> {
         let pair = match self {
             Layout::Queue => list.get(i),
@@ -100,8 +102,8 @@ fn check_first<R: Sample, W: Waiting<R>>(
     check_delta(rt, step, pair.delta, text)
 }
 
-// The buffer shows the first pair of the list, and its memory holds all of them; a copy of it shows and drops one after
-// another, and then holds nothing.
+// The buffer shows the first pair of the list, and its memory holds all of them; a copy of it shows
+// and drops one after another, and then holds nothing.
 fn check_list<'a, R: Sample, W: OverSlice<'a, R>>(
     rt: &impl Abort,
     step: usize,
@@ -182,7 +184,8 @@ fn perform<R: Sample, W: Waiting<R>>(
     Ok(())
 }
 
-// Each row of a buffer's memory holds the delta of its pair, and same where it has none, each change by its own record.
+// Each row of a buffer's memory holds the delta of its pair, and same where it has none, each
+// change by its own record.
 fn check_memory<R: Sample>(
     rt: &impl Abort,
     layout: Layout,
@@ -227,8 +230,8 @@ impl<R: Sample> Memory<R> {
     }
 }
 
-// Plays a script on two buffers, the first to begin with, and answers what waits in each at the end: the script turns to the
-// first again.
+// Plays a script on two buffers, the first to begin with, and answers what waits in each at the
+// end: the script turns to the first again.
 pub(crate) fn play<'a, 's, R: Sample, W: OverSlice<'a, R>>(
     rt: &impl Abort,
     alloc: Global,

@@ -1,13 +1,13 @@
 //! The ring: a queue whose rows stay where they are. A put writes behind the last row, a drop goes on to the next one, and
 //! behind the memory's last row comes its first.
-ghost use Rattle.std.specs.Prelude.{◌≡◌, ◌+◌, ◌*◌, ◌≤◌, ◌<◌, ◌++◌, ◌∷◌, [], true, false, Ok, length, map, drop};
+ghost use Rattle.std.specs.Prelude.{◌≡◌, ◌+◌, ◌*◌, ◌≤◌, ◌<◌, ◌++◌, ◌∷◌, [], true, false, Ok, length, map, take, drop};
 ghost use Rattle.std.specs.List.{list_all};
 ghost use Rattle.row.specs.Limits.{field_limit};
 ghost use Rattle.row.specs.Records.{change_of};
 ghost use Rattle.row.specs.Rows.{all_same};
 ghost use Rattle.row.specs.Taps.{is_tap};
 ghost use Rattle.waiting.specs.Limits.{pair_limit, queue_limit};
-ghost use Rattle.waiting.specs.Lists.{pair};
+ghost use Rattle.waiting.specs.Lists.{pair, without};
 ghost use Rattle.waiting.specs.Policies.{first};
 ghost use Rattle.waiting.specs.Rows.{rows_wait};
 ghost use Rattle.buffers.specs.Turning.{turned};
@@ -62,6 +62,20 @@ impl<R: Value> Ring<'_, R> {
         // never refused: a row has as many places
         let _ = copy_changes(row_at(self.changes, self.start), &mut row);
         (self.taps[self.start], row)
+    }
+
+    // Takes the first pair off, and puts it behind the others if it is not the tap's.
+    fn turn(&mut self, number: usize)
+        requires { 0 < self.old.len }
+        ensures list { ringed R.kind self.new
+            ≡ drop 1 (ringed R.kind self.old) ++ without number (take 1 (ringed R.kind self.old)) }
+        ensures lent { self.new.changes.ghost_name ≡ self.old.changes.ghost_name }
+    {
+        let (tap, row) = self.read_first();
+        self.pop();
+        if tap != number {
+            self.push(tap, &row);
+        }
     }
 
     // Takes the first pair off. Its row stays as it is.
@@ -132,12 +146,10 @@ impl<'a, R: Value> Waiting<R> for Ring<'a, R> {
 
     // As often as there are pairs, the first goes behind the others, unless it is the tap's.
     fn forget(&mut self, tap: Tap) {
-        for _ in 0..self.len {
-            let (number, row) = self.read_first();
-            self.pop();
-            if number != tap.number() {
-                self.push(number, &row);
-            }
+        let mut left = self.len;
+        while left > 0 {
+            self.turn(tap.number());
+            left -= 1;
         }
     }
 

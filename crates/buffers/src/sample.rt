@@ -5,9 +5,10 @@ use std::process::Abort;
 use std::test::*;
 use waiting::Waiting;
 
-// A delta: a character for each field from the first on, and the fields behind are same. `.` is same, `#` null, `$` the rest
-// value, `2` the value `01`, any other the value of that one character. In a delta that is put, `,` is also same and `!` null,
-// with the record of `1`, and `?` is a value by a record that is not sound: what is stored then is `.`, `#` and `$`.
+// A delta: a character for each field from the first on, and the fields behind are same. `.` is
+// same, `#` null, `$` the rest value, `2` the value `01`, any other the value of that one
+// character. In a delta that is put, `,` is also same and `!` null, with the record of `1`, and `?`
+// is a value by a record that is not sound: what is stored then is `.`, `#` and `$`.
 pub(crate) type Spelling<'s> = &'s [u8];
 
 // A kind of value whose records are compared, and one of its records that is not sound.

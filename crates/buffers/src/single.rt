@@ -43,7 +43,9 @@ impl<'a, R: Value> Waiting<R> for Single<'a, R> {
 
     ghost meaning = { λ s. pairs_in R.kind (option_to_list s.tap) s.changes.now };
 
-    ghost exact = { λ s. Exact R.kind (rows_of 1) s.changes.now (pairs_in R.kind (option_to_list s.tap) s.changes.now) };
+    ghost exact = { λ s.
+        Exact R.kind (rows_of 1) s.changes.now
+        (pairs_in R.kind (option_to_list s.tap) s.changes.now) };
 
     ghost lent = { λ s. s.changes.ghost_name };
 

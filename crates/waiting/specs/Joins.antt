@@ -11,7 +11,9 @@ same_in m n d = all_same (take n (drop m d))
 
 -- the join of the first pair's tap is its delta, joined with the join of what waits behind it
 abbrev pub FirstTakenOff : Type 0
-FirstTakenOff = (p : Pair) (l : List Pair) → list_all may_wait (p ∷ l) ≡ true → joined p.tap (p ∷ l) ≡ join p.delta (joined p.tap l)
+FirstTakenOff =
+    (p : Pair) (l : List Pair) → list_all may_wait (p ∷ l) ≡ true → joined p.tap
+    (p ∷ l) ≡ join p.delta (joined p.tap l)
 
 -- every other tap's join is the join of what waits behind it
 abbrev pub OthersBehind : Type 0
@@ -23,19 +25,31 @@ BlankWithout = (t : ℕ) (m : Meaning) → joined t (listed (after_forget t m)) 
 
 -- and every other tap's join stays
 abbrev pub OthersWithout : Type 0
-OthersWithout = (t u : ℕ) (m : Meaning) → u ≢ t → joined u (listed (after_forget t m)) ≡ joined u (listed m)
+OthersWithout =
+    (t u : ℕ) (m : Meaning) → u ≢ t → joined u (listed (after_forget t m)) ≡ joined u (listed m)
 
 -- where a join is blank and all pairs may wait, no pair is for the tap
 abbrev pub NoneForBlank : Type 0
-NoneForBlank = (t : ℕ) (l : List Pair) → list_all may_wait l ≡ true → joined t l ≡ blank → list_all (λ p. not (is_for t p)) l ≡ true
+NoneForBlank =
+    (t : ℕ) (l : List Pair) → list_all may_wait l ≡ true → joined t l ≡ blank → list_all
+    (λ p. not (is_for t p)) l ≡ true
 
 -- places that are same in the join are same in each delta, and conversely
 abbrev pub SameInEach : Type 0
-SameInEach = (m n t : ℕ) (l : List Pair) → list_all may_wait l ≡ true → same_in m n (joined t l) ≡ list_all (same_in m n) (waiting_for t l)
+SameInEach =
+    (m n t : ℕ) (l : List Pair) → list_all may_wait l ≡ true → same_in m n (joined t l) ≡ list_all
+    (same_in m n) (waiting_for t l)
 
--- where the texts of all that waits are allowed, so they are once a pair is dropped, and a tap forgotten
+-- where the texts of all that waits are allowed, so they are once a pair is dropped, and a tap
+-- forgotten
 abbrev pub DropAllows : Type 0
-DropAllows = (allowed : List ℕ → Bool) (m : Meaning) → list_all (change_allowed allowed) (deltas (listed m)) ≡ true → list_all (change_allowed allowed) (deltas (listed (after_drop m))) ≡ true
+DropAllows =
+    (allowed : List ℕ → Bool) (m : Meaning) → list_all (change_allowed allowed)
+    (deltas (listed m)) ≡ true → list_all (change_allowed allowed)
+    (deltas (listed (after_drop m))) ≡ true
 
 abbrev pub ForgetAllows : Type 0
-ForgetAllows = (allowed : List ℕ → Bool) (t : ℕ) (m : Meaning) → list_all (change_allowed allowed) (deltas (listed m)) ≡ true → list_all (change_allowed allowed) (deltas (listed (after_forget t m))) ≡ true
+ForgetAllows =
+    (allowed : List ℕ → Bool) (t : ℕ) (m : Meaning) → list_all (change_allowed allowed)
+    (deltas (listed m)) ≡ true → list_all (change_allowed allowed)
+    (deltas (listed (after_forget t m))) ≡ true

@@ -7,5 +7,6 @@ use Rattle.row.specs.declared.change.Change as records
 use Rattle.waiting.specs.Lists.{Pair}
 
 -- exactly the records of what the kind lays out for its list
-abbrev pub Exact : {R : Type 0} → Kind R → (List Pair → List Change) → List (records.Change R) → List Pair → Type 0
+abbrev pub Exact :
+    {R : Type 0} → Kind R → (List Pair → List Change) → List (records.Change R) → List Pair → Type 0
 Exact k layout memory l = memory ≡ map (change_record k) (layout l)

@@ -1,5 +1,6 @@
 -- What waits to be sent: pairs of a tap and a delta, in sending order.
-use Rattle.std.specs.Prelude.{ℕ, Bool, true, not, ◌&&◌, List, [], ◌∷◌, map, length, cond, fold, filter, flat_map, ◌==◌}
+use Rattle.std.specs.Prelude.{ℕ, Bool, true, not, ◌&&◌, List, [], ◌∷◌, map, length, cond, fold}
+use Rattle.std.specs.Prelude.{filter, flat_map, ◌==◌}
 use Rattle.row.specs.Limits.{field_limit}
 use Rattle.row.specs.Rows.{Cell, Change, null, value, same, becomes, join, blank, all_same}
 use Rattle.row.specs.Taps.{is_tap}

@@ -1,5 +1,7 @@
--- What a kind of waiting buffer is, by what its buffers mean alone; and what its calls answer and leave.
-use Rattle.std.specs.Prelude.{◌≡◌, ◌≢◌, ℕ, ◌+◌, ◌≤◌, Bool, true, cond, ◌&&◌, List, [], ◌∷◌, length, drop, Ok, Err, Result, nat_le}
+-- What a kind of waiting buffer is, by what its buffers mean alone; and what its calls answer and
+-- leave.
+use Rattle.std.specs.Prelude.{◌≡◌, ◌≢◌, ℕ, ◌+◌, ◌≤◌, Bool, true, cond, ◌&&◌, List, [], ◌∷◌, length}
+use Rattle.std.specs.Prelude.{drop, Ok, Err, Result, nat_le}
 use Rattle.std.specs.List.{list_all}
 use Rattle.row.specs.Faults.{refusal}
 use Rattle.row.specs.Limits.{field_limit}
@@ -10,8 +12,9 @@ use Rattle.row.specs.declared.fault.Fault.TheVariants.{Full, Nothing}
 use Rattle.row.specs.declared.fault.Refusal.{Refusal}
 use Rattle.waiting.specs.Lists.{Pair, may_wait, joined, without, deltas, change_allowed, widened}
 
--- What a buffer means: its waiting list, and nothing more. All that follows speaks of a meaning, and of the list that it
--- has. So a meaning that is more than its list changes here, and in what a put, a drop and a forget leave.
+-- What a buffer means: its waiting list, and nothing more. All that follows speaks of a meaning,
+-- and of the list that it has. So a meaning that is more than its list changes here, and in what a
+-- put, a drop and a forget leave.
 abbrev pub Meaning : Type 0
 Meaning = List Pair
 
@@ -55,23 +58,31 @@ pub record Lawful (b : Policy) : Type 0 where
   -- where nothing waits, any delta is taken
   pub empty-takes : (m : Meaning) (t : ℕ) → listed m ≡ [] → is_tap t ≡ true → b.takes m t ≡ true
   -- the join of the tap's own waiting deltas is the old one joined with the new delta
-  pub own-join : (m : Meaning) (t : ℕ) (d : List Change) → Put b m t d → joined t (listed (b.after m t d)) ≡ join (joined t (listed m)) d
+  pub own-join :
+      (m : Meaning) (t : ℕ) (d : List Change) → Put b m t d
+      → joined t (listed (b.after m t d)) ≡ join (joined t (listed m)) d
   -- the other taps' joins stay
-  pub other-joins : (m : Meaning) (t : ℕ) (d : List Change) → Put b m t d → (u : ℕ) → u ≢ t → joined u (listed (b.after m t d)) ≡ joined u (listed m)
+  pub other-joins :
+      (m : Meaning) (t : ℕ) (d : List Change) → Put b m t d → (u : ℕ) → u ≢ t
+      → joined u (listed (b.after m t d)) ≡ joined u (listed m)
   -- there is one pair more at most
-  pub grows : (m : Meaning) (t : ℕ) (d : List Change) → Put b m t d → length (listed (b.after m t d)) ≤ length (listed m) + 1
+  pub grows :
+      (m : Meaning) (t : ℕ) (d : List Change) → Put b m t d
+      → length (listed (b.after m t d)) ≤ length (listed m) + 1
   -- a delta that leaves each cell as it is leaves the buffer as it is
-  pub passes-same : (m : Meaning) (t : ℕ) (d : List Change) → Put b m t d → all_same d ≡ true → b.after m t d ≡ m
+  pub passes-same :
+      (m : Meaning) (t : ℕ) (d : List Change) → Put b m t d → all_same d ≡ true → b.after m t d ≡ m
   -- no list has a pair of only same changes
   pub may-wait : (m : Meaning) → b.holds m ≡ true → list_all may_wait (listed m) ≡ true
   -- what a buffer comes to mean is what it can mean
   pub empty-holds : b.holds nothing_waits ≡ true
-  pub put-holds : (m : Meaning) (t : ℕ) (d : List Change) → Put b m t d → b.holds (b.after m t d) ≡ true
+  pub put-holds :
+      (m : Meaning) (t : ℕ) (d : List Change) → Put b m t d → b.holds (b.after m t d) ≡ true
   pub drop-holds : (m : Meaning) → b.holds m ≡ true → b.holds (after_drop m) ≡ true
   pub forget-holds : (m : Meaning) (t : ℕ) → b.holds m ≡ true → b.holds (after_forget t m) ≡ true
 
--- What waits are deltas of a kind of value: where the texts of all that waits and of the delta are allowed, so are those of
--- what waits then.
+-- What waits are deltas of a kind of value: where the texts of all that waits and of the delta are
+-- allowed, so are those of what waits then.
 abbrev pub KeepsValues : (List ℕ → Bool) → Policy → Type 0
 KeepsValues allowed b =
     (m : Meaning) (t : ℕ) (d : List Change) → Put b m t d
@@ -80,7 +91,9 @@ KeepsValues allowed b =
     → list_all (change_allowed allowed) (deltas (listed (b.after m t d))) ≡ true
 
 abbrev pub put_answer : Policy → Meaning → ℕ → List Change → Result (Unit {0}) Refusal
-put_answer b m t d = cond (nat_le (length d) field_limit) (cond (b.takes m t) (Ok tt) (Err (refusal Full 0))) (Err memory_refusal)
+put_answer b m t d =
+    cond (nat_le (length d) field_limit) (cond (b.takes m t) (Ok tt) (Err (refusal Full 0)))
+    (Err memory_refusal)
 
 -- the first pair
 abbrev pub first : List Pair → Result Pair Refusal

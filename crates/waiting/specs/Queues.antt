@@ -1,5 +1,6 @@
 -- The queue: deltas wait in the order in which they were put, up to a number of pairs.
-use Rattle.std.specs.Prelude.{ℕ, ◌-◌, ◌*◌, ◌&&◌, List, [], ◌∷◌, ◌++◌, map, length, take, drop, replicate, nat_le, nat_lt}
+use Rattle.std.specs.Prelude.{ℕ, ◌-◌, ◌*◌, ◌&&◌, List, [], ◌∷◌, ◌++◌, map, length, take, drop}
+use Rattle.std.specs.Prelude.{replicate, nat_le, nat_lt}
 use Rattle.std.specs.List.{list_all}
 use Rattle.row.specs.Kinds.{Kind}
 use Rattle.row.specs.Limits.{field_limit}
@@ -32,7 +33,8 @@ queue_rows = rows_of pair_limit
 -- what waits, by the taps and a row of memory for each
 abbrev pub pairs_in : {R : Type 0} → Kind R → List ℕ → List (records.Change R) → List Pair
 pairs_in k [] cs = []
-pairs_in k (t ∷ ts) cs = pair t (map (change_of k) (take field_limit cs)) ∷ pairs_in k ts (drop field_limit cs)
+pairs_in k (t ∷ ts) cs =
+    pair t (map (change_of k) (take field_limit cs)) ∷ pairs_in k ts (drop field_limit cs)
 
 -- what waits in a queue
 abbrev pub queued : {R : Type 0} {g : _} → Kind R → Queue R g → List Pair

@@ -1,5 +1,6 @@
 -- The rows of a buffer's memory.
-use Rattle.std.specs.Prelude.{ℕ, zero, suc, ◌+◌, ◌*◌, Bool, true, not, ◌&&◌, List, map, length, take, drop, nat_le}
+use Rattle.std.specs.Prelude.{ℕ, zero, suc, ◌+◌, ◌*◌, Bool, true, not, ◌&&◌, List, map, length}
+use Rattle.std.specs.Prelude.{take, drop, nat_le}
 use Rattle.row.specs.Kinds.{Kind}
 use Rattle.row.specs.Limits.{field_limit}
 use Rattle.row.specs.Records.{change_of, change_record}
@@ -19,4 +20,5 @@ module _ {R : Type 0} (k : Kind R) where
   -- each of the first n rows has a change that is not same
   abbrev pub rows_wait : ℕ → List (Change R) → Bool
   rows_wait zero cs = true
-  rows_wait (suc n) cs = not (all_same (map (change_of k) (take field_limit cs))) && rows_wait n (drop field_limit cs)
+  rows_wait (suc n) cs =
+      not (all_same (map (change_of k) (take field_limit cs))) && rows_wait n (drop field_limit cs)

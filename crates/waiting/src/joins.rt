@@ -1,7 +1,9 @@
 //! What joins keep as pairs are sent and forgotten.
-ghost use Rattle.waiting.specs.Joins.{FirstTakenOff, OthersBehind, BlankWithout, OthersWithout, NoneForBlank, SameInEach, DropAllows, ForgetAllows};
+ghost use Rattle.waiting.specs.Joins.{FirstTakenOff, OthersBehind, BlankWithout, OthersWithout};
+ghost use Rattle.waiting.specs.Joins.{NoneForBlank, SameInEach, DropAllows, ForgetAllows};
 
-/// The laws of joins that hold of each waiting list, whatever the kind. Nothing to run: the contract says them.
+/// The laws of joins that hold of each waiting list, whatever the kind. Nothing to run: the
+/// contract says them.
 pub fn joins_keep_their_laws()
     ensures first { FirstTakenOff }
     ensures behind { OthersBehind }

@@ -23,7 +23,9 @@ impl<R: Value> Marks<'_, R> {
     // The index of the first tap that waits.
     fn first_waiting(&self) -> Option<usize>
         ensures inside { IfSome result (λ i. i < tap_limit) }
-        ensures first { MatchOption result (marks_of R.kind self.now.changes.now ≡ []) (λ i. first (marks_of R.kind self.now.changes.now) ≡ Ok (pair (i + 1) (map (change_of R.kind) (row_at i self.now.changes.now)))) }
+        ensures first { MatchOption result (marks_of R.kind self.now.changes.now ≡ [])
+            (λ i. first (marks_of R.kind self.now.changes.now)
+            ≡ Ok (pair (i + 1) (map (change_of R.kind) (row_at i self.now.changes.now)))) }
     {
         // by their index, since a row is a tap's by its place
         for i in 0..TAP_LIMIT {

@@ -15,8 +15,10 @@ pub const PAIR_LIMIT: usize = 16;
 /// The changes of a queue's memory.
 pub const QUEUE_LIMIT: usize = PAIR_LIMIT * FIELD_LIMIT;
 
-/// Up to `PAIR_LIMIT` pairs: the tap of each by its number, and its delta as a row of the lent memory.
-// kept: tap numbers and no `Tap`, since a struct that holds a `&mut` may be no type argument where a struct in it has an invariant
+/// Up to `PAIR_LIMIT` pairs: the tap of each by its number, and its delta as a row of the lent
+/// memory.
+// Tap numbers and no `Tap`, since a struct that holds a `&mut` may be no type argument where
+// a struct in it has an invariant
 #[derive(Drop)]
 pub struct Queue<'a, R: Value> {
     changes: &'a mut [Change<R>],
@@ -54,7 +56,8 @@ impl<R: Value> Queue<'_, R> {
         requires { i < self.old.len }
         ensures len { self.new.len + 1 ≡ self.old.len }
         ensures list { queued R.kind self.new ≡ remove (queued R.kind self.old) i }
-        ensures exact { Exact R.kind queue_rows self.old.changes.now (queued R.kind self.old) → Exact R.kind queue_rows self.new.changes.now (queued R.kind self.new) }
+        ensures exact { Exact R.kind queue_rows self.old.changes.now (queued R.kind self.old)
+            → Exact R.kind queue_rows self.new.changes.now (queued R.kind self.new) }
         ensures lent { self.new.changes.ghost_name ≡ self.old.changes.ghost_name }
     {
         self.taps[i..].rotate_left(1);
@@ -80,7 +83,8 @@ impl<'a, R: Value> Waiting<R> for Queue<'a, R> {
 
     ghost keeps_values = { queue-values R.kind.allowed };
 
-    ghost holdable = { λ q. queue-hold R.kind q.len q.taps q.changes.now q.few q.whole q.known q.busy };
+    ghost holdable = { λ q.
+        queue-hold R.kind q.len q.taps q.changes.now q.few q.whole q.known q.busy };
 
     fn takes(&self, _: Tap) -> bool {
         self.len < PAIR_LIMIT

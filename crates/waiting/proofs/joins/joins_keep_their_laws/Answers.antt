@@ -1,4 +1,6 @@
-use Rattle.waiting.specs.JoinsLaws.{joined-first, joined-behind, joined-without, joined-without-other, none-for-blank, same_in-joined, all-drop, all-without}
+use Rattle.waiting.specs.JoinsLaws.{joined-first, joined-behind, joined-without}
+use Rattle.waiting.specs.JoinsLaws.{joined-without-other, none-for-blank, same_in-joined, all-drop}
+use Rattle.waiting.specs.JoinsLaws.{all-without}
 use Rattle.waiting.specs.Lists.{change_allowed}
 use Rattle.waiting.proofs.joins.joins_keep_their_laws.Goals as goal
 

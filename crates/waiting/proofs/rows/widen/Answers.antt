@@ -11,6 +11,7 @@ returns g c =
     let ds = c.args.delta.now in
     let few : length ds ≤ field_limit = omega arith in
     ap Ok (c.canonicalize.ensures.changes
-    ∙ (λ j. map (canonical k) (c.copy_from_slice.ensures.after j ++ drop (length ds) (replicate field_limit (c.same-whole.ensures j))))
+    ∙ (λ j. map (canonical k) (c.copy_from_slice.ensures.after j ++ drop (length ds)
+    (replicate field_limit (c.same-whole.ensures j))))
     ∙ widened-records k ds few)
     ∙ sym (cond-true _ _ _ (le-leb (length ds) field_limit few))

@@ -4,4 +4,6 @@ use Rattle.waiting.specs.Marks.{marks_in, marks_of}
 use Rattle.waiting.proofs.marks.Marks.first_waiting.Given as goal
 
 abbrev pub invariant-loop-i : goal.invariant-loop-i
-invariant-loop-i g l = marks_in g.R.Value.kind (tap_limit - l.i) (1 + l.i) (drop (field_limit * l.i) l.self.changes.now) ≡ marks_of g.R.Value.kind l.self.changes.now
+invariant-loop-i g l =
+    marks_in g.R.Value.kind (tap_limit - l.i) (1 + l.i)
+    (drop (field_limit * l.i) l.self.changes.now) ≡ marks_of g.R.Value.kind l.self.changes.now

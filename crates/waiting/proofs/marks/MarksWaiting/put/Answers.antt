@@ -15,15 +15,23 @@ returns-clause-meaning g c =
     let ds = c.args.delta.now in
     let t = c.args.tap.number in
     let place = tap_place t c.index.result c.args.tap.known c.index.ensures in
-    let w = widened-parts k ds c.in_ok-whole.whole c.widen.result c.widen.ensures c.in_ok-whole.was in
-    joined-list k cs c.join_row.new.changes c.index.result c.args.self.now.whole place.0 g.met.R.Value.lawful c.in_ok-whole.whole (ap length w.1 ∙ length-widened k ds) c.join_row.ensures t place.1
-    ∙ ap (marked (marks_of k cs) t) (ap (map (change_of k)) w.1 ∙ widened-means k g.met.R.Value.lawful ds)
-    ∙ sym (cond-true _ _ _ (and_from _ _ (ap (λ n. nat_le n field_limit) (length-map ds (change_of k)) ∙ w.0) refl))
+    let w = widened-parts k ds c.in_ok-whole.whole c.widen.result c.widen.ensures
+    c.in_ok-whole.was in
+    joined-list k cs c.join_row.new.changes c.index.result c.args.self.now.whole place.0
+    g.met.R.Value.lawful c.in_ok-whole.whole (ap length w.1 ∙ length-widened k ds)
+    c.join_row.ensures t place.1
+    ∙ ap (marked (marks_of k cs) t)
+    (ap (map (change_of k)) w.1 ∙ widened-means k g.met.R.Value.lawful ds)
+    ∙ sym (cond-true _ _ _ (and_from _ _
+    (ap (λ n. nat_le n field_limit) (length-map ds (change_of k)) ∙ w.0) refl))
 
 pub returns-clause-exact : goal.returns-clause-exact
 returns-clause-exact g c =
     let k = g.R.Value.kind in
     let ds = c.args.delta.now in
     let place = tap_place c.args.tap.number c.index.result c.args.tap.known c.index.ensures in
-    let w = widened-parts k ds c.in_ok-whole.whole c.widen.result c.widen.ensures c.in_ok-whole.was in
-    joined-exact k c.args.self.now.changes.now c.join_row.new.changes c.index.result c.args.self.now.whole place.0 g.met.R.Value.lawful c.in_ok-whole.whole (ap length w.1 ∙ length-widened k ds) c.join_row.ensures
+    let w = widened-parts k ds c.in_ok-whole.whole c.widen.result c.widen.ensures
+    c.in_ok-whole.was in
+    joined-exact k c.args.self.now.changes.now c.join_row.new.changes c.index.result
+    c.args.self.now.whole place.0 g.met.R.Value.lawful c.in_ok-whole.whole
+    (ap length w.1 ∙ length-widened k ds) c.join_row.ensures

@@ -15,8 +15,10 @@ loop-i-preserved-then-self-i g c =
     let all = queued k start in
     let before = c.loop-i.invariant in
     let long = length-taken k q.len q.taps q.changes.now (omega arith) in
-    let here = tap-taken k q.len c.loop-i.i q.taps q.changes.now (pair 0 []) c.loop-i-test.true (omega arith) ∙ c.if-self-i.true ∙ c.number.ensures in
-    let gone = forgotten-removed t c.loop-i.i l _ (pair 0 []) before.gone (omega (arith, long)) here in
+    let here = tap-taken k q.len c.loop-i.i q.taps q.changes.now (pair 0 []) c.loop-i-test.true
+    (omega arith) ∙ c.if-self-i.true ∙ c.number.ensures in
+    let gone = forgotten-removed t c.loop-i.i l _ (pair 0 []) before.gone
+    (omega (arith, long)) here in
     record {
       gone = subst (λ m. Forgotten t c.loop-i.i m all) (sym c.remove.ensures.list) gone;
       exact = λ old. c.remove.ensures.exact (before.exact old);
@@ -30,9 +32,12 @@ loop-i-preserved g c =
     let l = queued k q in
     let before = c.loop-i.invariant in
     let long = length-taken k q.len q.taps q.changes.now (omega arith) in
-    let here = tap-taken k q.len c.loop-i.i q.taps q.changes.now (pair 0 []) c.loop-i-test.true (omega arith) in
+    let here = tap-taken k q.len c.loop-i.i q.taps q.changes.now (pair 0 []) c.loop-i-test.true
+    (omega arith) in
     record {
-      gone = forgotten-passed c.args.tap.number c.loop-i.i l _ (pair 0 []) before.gone (omega (arith, long)) (λ e. c.if-self-i.false (sym here ∙ e ∙ sym c.number.ensures));
+      gone =
+          forgotten-passed c.args.tap.number c.loop-i.i l _ (pair 0 []) before.gone
+          (omega (arith, long)) (λ e. c.if-self-i.false (sym here ∙ e ∙ sym c.number.ensures));
       exact = before.exact;
       lent = before.lent;
     }

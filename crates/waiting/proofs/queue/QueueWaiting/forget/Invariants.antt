@@ -11,7 +11,9 @@ invariant-loop-i g l =
     let all = queued k l.initial.self in
     record {
       gone : Forgotten l.tap.number l.i list all;
-      exact : Exact k queue_rows l.initial.self.changes.now all → Exact k queue_rows l.self.changes.now list;
+      exact :
+          Exact k queue_rows l.initial.self.changes.now all
+          → Exact k queue_rows l.self.changes.now list;
       lent : l.self.changes.ghost_name ≡ l.initial.self.changes.ghost_name;
     }
 
