@@ -19,16 +19,27 @@ use Rattle.buffers.specs.declared.ring.Ring.{Ring}
 
 -- what waits in a ring: what would in a queue, had it the taps and rows from where the ring stands
 abbrev pub ringed : {R : Type 0} {g : _} → Kind R → Ring R g → List Pair
-ringed k r = pairs_in k (take r.len (turned r.start r.taps)) (turned (field_limit * r.start) r.changes.now)
+ringed k r =
+    pairs_in k (take r.len (turned r.start r.taps)) (turned (field_limit * r.start) r.changes.now)
 
 pub length-turned : {X : Type 0} (n : ℕ) (xs : List X) → length (turned n xs) ≡ length xs
-length-turned n xs = omega (arith, length-append (drop n xs) (take n xs), length-drop n xs, length-take n xs)
+length-turned n xs =
+    omega (arith, length-append (drop n xs) (take n xs), length-drop n xs, length-take n xs)
 
-pub all-turned : (n : ℕ) (taps : List ℕ) → list_all is_tap taps ≡ true → list_all is_tap (turned n taps) ≡ true
+pub all-turned :
+    (n : ℕ) (taps : List ℕ) → list_all is_tap taps ≡ true → list_all is_tap (turned n taps) ≡ true
 all-turned n taps e =
-    let h = and_parts (list_all is_tap (take n taps)) (list_all is_tap (drop n taps)) (sym (list_all-append is_tap (take n taps) (drop n taps)) ∙ ap (list_all is_tap) (take-append-drop n taps) ∙ e) in
+    let h = and_parts (list_all is_tap (take n taps)) (list_all is_tap (drop n taps))
+    (sym (list_all-append is_tap (take n taps) (drop n taps)) ∙ ap (list_all is_tap)
+    (take-append-drop n taps) ∙ e) in
     list_all-append is_tap (drop n taps) (take n taps) ∙ and_from _ _ h.1 h.0
 
-pub ring-holds : {R : Type 0} (k : Kind R) (start len : ℕ) (taps : List ℕ) (cs : List (Change R)) → len ≤ pair_limit → length cs ≡ queue_limit → list_all is_tap taps ≡ true → rows_wait k len (turned (field_limit * start) cs) ≡ true → queue.holds (pairs_in k (take len (turned start taps)) (turned (field_limit * start) cs)) ≡ true
+pub ring-holds :
+    {R : Type 0} (k : Kind R) (start len : ℕ) (taps : List ℕ) (cs : List (Change R))
+    → len ≤ pair_limit → length cs ≡ queue_limit → list_all is_tap taps ≡ true
+    → rows_wait k len (turned (field_limit * start) cs) ≡ true
+    → queue.holds (pairs_in k (take len (turned start taps)) (turned (field_limit * start) cs))
+    ≡ true
 ring-holds k start len taps cs few whole known busy =
-    queue-hold k len (turned start taps) (turned (field_limit * start) cs) few (length-turned (field_limit * start) cs ∙ whole) (all-turned start taps known) busy
+    queue-hold k len (turned start taps) (turned (field_limit * start) cs) few
+    (length-turned (field_limit * start) cs ∙ whole) (all-turned start taps known) busy

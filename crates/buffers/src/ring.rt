@@ -1,6 +1,8 @@
-//! The ring: a queue whose rows stay where they are. A put writes behind the last row, a drop goes on to the next one, and
-//! behind the memory's last row comes its first.
-ghost use Rattle.std.specs.Prelude.{◌≡◌, ◌+◌, ◌*◌, ◌≤◌, ◌<◌, ◌++◌, ◌∷◌, [], true, false, Ok, length, map, take, drop};
+//! The ring: a queue of 16 pairs whose rows stay where they are. A put writes behind the last row,
+//! a drop goes on to the next one, and behind the memory's last row comes its first. Of rows that
+//! are no longer in use nothing is promised.
+ghost use Rattle.std.specs.Prelude.{◌≡◌, ◌+◌, ◌*◌, ◌≤◌, ◌<◌, ◌++◌, ◌∷◌, [], true, false, Ok};
+ghost use Rattle.std.specs.Prelude.{length, map, take, drop};
 ghost use Rattle.std.specs.List.{list_all};
 ghost use Rattle.row.specs.Limits.{field_limit};
 ghost use Rattle.row.specs.Records.{change_of};
@@ -18,7 +20,8 @@ use waiting::{
     widen,
 };
 
-/// Up to `PAIR_LIMIT` pairs in as many rows of the lent memory, from the row where the ring stands on.
+/// Up to `PAIR_LIMIT` pairs in as many rows of the lent memory, from the row on where the ring
+/// stands.
 // Tap numbers and no `Tap`, as in `Queue`.
 #[derive(Drop)]
 pub struct Ring<'a, R: Value> {
@@ -43,7 +46,8 @@ impl<R: Value> Ring<'_, R> {
         requires whole { length row.now ≡ field_limit }
         requires changes { all_same (map (change_of R.kind) row.now) ≡ false }
         ensures len { self.new.len ≡ self.old.len + 1 }
-        ensures list { ringed R.kind self.new ≡ ringed R.kind self.old ++ pair number (map (change_of R.kind) row.now) ∷ [] }
+        ensures list { ringed R.kind self.new
+            ≡ ringed R.kind self.old ++ pair number (map (change_of R.kind) row.now) ∷ [] }
         ensures lent { self.new.changes.ghost_name ≡ self.old.changes.ghost_name }
     {
         let i = (self.start + self.len) % PAIR_LIMIT;
@@ -56,7 +60,8 @@ impl<R: Value> Ring<'_, R> {
     // The first pair: its tap's number, and a copy of its delta.
     fn read_first(&self) -> (usize, [Change<R>; FIELD_LIMIT])
         requires { 0 < self.now.len }
-        ensures { first (ringed R.kind self.now) ≡ Ok (pair result.0 (map (change_of R.kind) result.1)) }
+        ensures { first (ringed R.kind self.now)
+            ≡ Ok (pair result.0 (map (change_of R.kind) result.1)) }
     {
         let mut row = [Change::same(); FIELD_LIMIT];
         // never refused: a row has as many places
@@ -71,6 +76,8 @@ impl<R: Value> Ring<'_, R> {
             ≡ drop 1 (ringed R.kind self.old) ++ without number (take 1 (ringed R.kind self.old)) }
         ensures lent { self.new.changes.ghost_name ≡ self.old.changes.ghost_name }
     {
+        // lent so that the checker knows that an array of twelve changes has room
+        let _room = &mut *self.changes;
         let (tap, row) = self.read_first();
         self.pop();
         if tap != number {
@@ -99,7 +106,6 @@ impl<'a, R: Value> Waiting<R> for Ring<'a, R> {
 
     ghost meaning = { ringed R.kind };
 
-    // of rows that are no longer in use nothing is said
     ghost exact = { λ _. Unit {0} };
 
     ghost lent = { λ r. r.changes.ghost_name };
@@ -108,7 +114,8 @@ impl<'a, R: Value> Waiting<R> for Ring<'a, R> {
 
     ghost keeps_values = { queue-values R.kind.allowed };
 
-    ghost holdable = { λ r. ring-holds R.kind r.start r.len r.taps r.changes.now r.few r.whole r.known r.busy };
+    ghost holdable = { λ r.
+        ring-holds R.kind r.start r.len r.taps r.changes.now r.few r.whole r.known r.busy };
 
     fn takes(&self, _: Tap) -> bool {
         self.len < PAIR_LIMIT
@@ -122,6 +129,8 @@ impl<'a, R: Value> Waiting<R> for Ring<'a, R> {
         if all_same(&whole) {
             return Ok(());
         }
+        // lent so that the checker knows that an array of twelve changes has room
+        let _room = &mut *self.changes;
         self.push(tap.number(), &whole);
         Ok(())
     }

@@ -1,13 +1,6 @@
-use Rattle.std.proofs.Common.{arith, rules}
 use Rattle.buffers.specs.Rings.{ring-holds, ringed}
 use Rattle.buffers.proofs.RingRows.{first-waits}
 use Rattle.buffers.proofs.ring.Ring.turn.Goals as goal
-
-pub read_first-tap-requires : goal.read_first-tap-requires
-read_first-tap-requires g c = grind (arith, c.requires)
-
-pub shared_whole_as_slice-push : goal.shared_whole_as_slice-push
-shared_whole_as_slice-push g c = search rules
 
 pub push-requires-clause-known : goal.push-requires-clause-known
 push-requires-clause-known g c =

@@ -8,4 +8,6 @@ use Rattle.buffers.proofs.ring.RingWaiting.count.Goals as goal
 pub returns : goal.returns
 returns g c =
     let r = c.args.self.now in
-    sym (length-taken g.R.Value.kind r.len (turned r.start r.taps) (turned (field_limit * r.start) r.changes.now) (omega (arith, length-turned r.start r.taps)))
+    sym (length-taken g.R.Value.kind r.len (turned r.start r.taps)
+    (turned (field_limit * r.start) r.changes.now)
+    (omega (arith, length-turned r.start r.taps)))

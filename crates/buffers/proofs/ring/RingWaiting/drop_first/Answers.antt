@@ -10,4 +10,6 @@ pub returns-clause-answer : goal.returns-clause-answer
 returns-clause-answer g c =
     let r = c.args.self.now in
     let long = length-turned r.start r.taps in
-    sym (drops-first g.R.Value.kind (take r.len (turned r.start r.taps)) (turned (field_limit * r.start) r.changes.now) (omega (arith, long, length-take-le r.len (turned r.start r.taps) (omega (arith, long)))))
+    sym (drops-first g.R.Value.kind (take r.len (turned r.start r.taps))
+    (turned (field_limit * r.start) r.changes.now)
+    (omega (arith, long, length-take-le r.len (turned r.start r.taps) (omega (arith, long)))))

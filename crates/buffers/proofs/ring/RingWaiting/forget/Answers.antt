@@ -1,4 +1,5 @@
-use Rattle.std.proofs.Common.{◌≡◌, ◌+◌, ◌-◌, ◌*◌, ◌<◌, ◌≤◌, ◌++◌, length, take, drop, ap, ◌∙◌, arith}
+use Rattle.std.proofs.Common.{◌≡◌, ◌+◌, ◌-◌, ◌*◌, ◌<◌, ◌≤◌, ◌++◌, length, take, drop, ap, ◌∙◌}
+use Rattle.std.proofs.Common.{arith}
 use Rattle.std.proofs.lemmas.List.{length-append, length-drop, length-take, drop_all, take_all}
 use Rattle.row.specs.Limits.{field_limit}
 use Rattle.waiting.specs.Lists.{without}
@@ -16,10 +17,24 @@ turn-requires g c =
     let t = c.args.tap.number in
     let all = ringed k start in
     let j = start.len - c.loop-left.left in
-    let long = length-pairs k (take q.len (turned q.start q.taps)) (turned (field_limit * q.start) q.changes.now) in
+    let long = length-pairs k (take q.len (turned q.start q.taps))
+    (turned (field_limit * q.start) q.changes.now) in
     let few = length-take q.len (turned q.start q.taps) in
-    let many = length-taken k start.len (turned start.start start.taps) (turned (field_limit * start.start) start.changes.now) (omega (arith, length-turned start.start start.taps)) in
-    omega (arith, long, few, many, ap length c.loop-left.invariant.list, length-append (drop j all) (without t (take j all)), length-drop j all, c.loop-left-test.true, c.loop-left.invariant.few)
+    let many = length-taken k start.len (turned start.start start.taps)
+    (turned (field_limit * start.start) start.changes.now)
+    (omega (arith, length-turned start.start start.taps)) in
+    omega (
+      arith,
+      long,
+      few,
+      many,
+      ap length c.loop-left.invariant.list,
+      length-append (drop j all)
+          (without t (take j all)),
+      length-drop j all,
+      c.loop-left-test.true,
+      c.loop-left.invariant.few,
+    )
 
 pub loop-left-preserved : goal.loop-left-preserved
 loop-left-preserved g c =
@@ -28,9 +43,12 @@ loop-left-preserved g c =
     let t = c.args.tap.number in
     let all = ringed k start in
     let j = start.len - c.loop-left.left in
-    let many = length-taken k start.len (turned start.start start.taps) (turned (field_limit * start.start) start.changes.now) (omega (arith, length-turned start.start start.taps)) in
+    let many = length-taken k start.len (turned start.start start.taps)
+    (turned (field_limit * start.start) start.changes.now)
+    (omega (arith, length-turned start.start start.taps)) in
     let before = c.loop-left.invariant in
-    let further : j + 1 ≡ start.len - (c.loop-left.left - 1) = omega (arith, c.loop-left-test.true, before.few) in
+    let further : j + 1 ≡ start.len - (c.loop-left.left - 1) = omega
+    (arith, c.loop-left-test.true, before.few) in
     record {
       list = c.turn.ensures.list
           ∙ (λ i. drop 1 (before.list i) ++ without (c.number.ensures i) (take 1 (before.list i)))
@@ -47,6 +65,8 @@ returns-clause-meaning g c =
     let t = c.args.tap.number in
     let all = ringed k start in
     let j = start.len - c.loop-left.left in
-    let many = length-taken k start.len (turned start.start start.taps) (turned (field_limit * start.start) start.changes.now) (omega (arith, length-turned start.start start.taps)) in
+    let many = length-taken k start.len (turned start.start start.taps)
+    (turned (field_limit * start.start) start.changes.now)
+    (omega (arith, length-turned start.start start.taps)) in
     let end : length all ≤ j = omega (arith, many, c.loop-left-test.false) in
     c.loop-left.invariant.list ∙ (λ i. drop_all j all end i ++ without t (take_all j all end i))

@@ -10,6 +10,8 @@ returns-clause-pair g c =
     let r = c.args.self.now in
     let k = g.R.Value.kind in
     let n = get_or r.taps r.start 0 in
-    let known : c.in_ok-tap.tap.number ≡ n = numbered (is_tap n) c.in_ok-tap.tap.number n c.in_ok-tap.ensures in
+    let known : c.in_ok-tap.tap.number ≡ n = numbered (is_tap n) c.in_ok-tap.tap.number n
+    c.in_ok-tap.ensures in
     (λ j. Ok (pair (known j) (map (change_of k) (c.row_at-delta.ensures j))))
-    ∙ sym (ring-first k r.start r.len r.taps r.changes.now r.inside (omega arith) r.whole (omega (arith, c.if-self-eq0.false)))
+    ∙ sym (ring-first k r.start r.len r.taps r.changes.now r.inside (omega arith) r.whole
+    (omega (arith, c.if-self-eq0.false)))

@@ -9,4 +9,7 @@ use Rattle.buffers.proofs.ring.RingWaiting.takes.Goals as goal
 pub returns : goal.returns
 returns g c =
     let r = c.args.self.now in
-    ap (λ n. nat_lt n pair_limit) (sym (length-taken g.R.Value.kind r.len (turned r.start r.taps) (turned (field_limit * r.start) r.changes.now) (omega (arith, length-turned r.start r.taps))))
+    ap (λ n. nat_lt n pair_limit) (sym
+    (length-taken g.R.Value.kind r.len (turned r.start r.taps)
+    (turned (field_limit * r.start) r.changes.now)
+    (omega (arith, length-turned r.start r.taps))))
