@@ -1,12 +1,10 @@
 -- The pairs of a ring, by the taps and rows that a queue would have from where it stands.
 use Rattle.std.proofs.Common.{◌≡◌, ◌⊎◌, inl, inr, ⊎_elim, ℕ, zero, suc, ◌+◌, ◌-◌, ◌*◌, ◌%◌, ◌<◌}
-use Rattle.std.proofs.Common.{◌≤◌, Bool, true, false, cond, ◌&&◌, Err, List, [], ◌∷◌, ◌++◌, map}
-use Rattle.std.proofs.Common.{length, take, drop, not, nat_le, subst, append_assoc, set, slice_set}
+use Rattle.std.proofs.Common.{◌≤◌, true, false, cond, ◌&&◌, List, [], ◌∷◌, ◌++◌, map}
+use Rattle.std.proofs.Common.{length, take, drop, not, nat_le, subst, append_assoc, slice_set}
 use Rattle.std.proofs.Common.{get_or, Ok, sym, refl, ap, ◌∙◌, arith, not-suc-le-zero}
 use Rattle.std.specs.Prelude.{◌==◌}
 use Rattle.std.proofs.lemmas.Bool.{and_from, and_parts, cases_lt, cond-true, eq-eqb, le-leb}
-use Rattle.row.specs.Faults.{refusal}
-use Rattle.row.specs.declared.fault.Fault.TheVariants.{Absent}
 use Rattle.std.proofs.lemmas.List.{length-drop, length-take-le, take-append-le, drop-drop}
 use Rattle.std.proofs.lemmas.List.{drop_more, take_more}
 use Rattle.std.proofs.lemmas.List.Elements.{filter-append}
@@ -26,7 +24,7 @@ use Rattle.waiting.specs.Rows.{has_row, rows_wait}
 use Rattle.waiting.proofs.QueueRows.{queue-pushed, queue-removed, rows-pushed, rows-removed}
 use Rattle.buffers.specs.Rings.{length-turned}
 use Rattle.buffers.specs.Turning.{turned}
-use Rattle.buffers.proofs.Turns.{put_from, turned-put, turned-next, put-own, set-is, one-at}
+use Rattle.buffers.proofs.Turns.{turned-put, turned-next, put-own, set-is, one-at}
 
 -- where a pair that is put behind the last stands
 around :
@@ -164,11 +162,6 @@ ring-first k s (suc l) taps cs inside many long some =
     ∙ ap (λ row. Ok (pair (get_or taps s 0) (map (change_of k) row)))
     (take-append-le field_limit (drop (field_limit * s) cs) (take (field_limit * s) cs)
     (omega (arith, length-drop (field_limit * s) cs, long)))
-
--- a number that is a tap's
-pub numbered : (b : Bool) (t n : ℕ) → Ok t ≡ cond b (Ok n) (Err (refusal Absent 0)) → t ≡ n
-numbered true t n e = cc
-numbered false t n e = cc
 
 -- what `store_row` leaves, where memory has the row
 pub row-stored :

@@ -1,13 +1,10 @@
-use Rattle.std.proofs.Common.{◌≡◌, ◌+◌, ◌*◌, ◌%◌, ◌&&◌, true, refl, ap, ◌∙◌, arith, length, take}
+use Rattle.std.proofs.Common.{◌+◌, ◌*◌, ◌%◌, refl, ap, ◌∙◌, arith, take}
 use Rattle.std.proofs.Common.{slice_set}
-use Rattle.std.specs.Prelude.{◌==◌}
-use Rattle.std.proofs.lemmas.Bool.{and_from, cond-true, eq-eqb, le-leb}
 use Rattle.row.specs.Limits.{field_limit}
-use Rattle.row.specs.Rows.{with_row}
 use Rattle.row.specs.Taps.{is_tap}
 use Rattle.waiting.specs.Limits.{pair_limit}
 use Rattle.waiting.specs.Queues.{pairs_in}
-use Rattle.waiting.specs.Rows.{has_row, rows_wait}
+use Rattle.waiting.specs.Rows.{rows_wait}
 use Rattle.waiting.proofs.QueueRows.{list_all-set}
 use Rattle.buffers.specs.Turning.{turned}
 use Rattle.buffers.proofs.RingRows.{ring-busy, ring-pushed, row-stored}
