@@ -1,1 +1,3 @@
 mod One
+mod RingRows
+mod Turns

@@ -66,29 +66,3 @@ module _ {R : Type 0} (k : Kind R) (law : Lawful k) (ds w cs new : List (Change 
   busy-one changes =
       and_from _ true (ap (λ r. not (all_same (map (change_of k) r))) (row-is ∙ sym is)
       ∙ ap not changes) refl
-
--- the records of changes are same where the changes are
-same-records :
-    {R : Type 0} (k : Kind R) (d : List rows.Change)
-    → all_same (map (change_of k) (map (change_record k) d)) ≡ all_same d
-same-records k [] = refl
-same-records k (same ∷ d) = same-records k d
-same-records k (becomes null ∷ d) = refl
-same-records k (becomes (value t) ∷ d) = refl
-
--- a delta that leaves each cell as it is leaves a queue as it is
-pub put_same :
-    {R : Type 0} (k : Kind R) (ds w : List (Change R)) (r : Result (List (Change R)) Refusal)
-    (limit : ℕ) (l : List Pair) (t : ℕ)
-    → r ≡ cond (nat_le (length ds) field_limit) (Ok (filled_changes k ds)) (Err memory_refusal)
-    → r ≡ Ok w → true ≡ all_same (map (change_of k) w)
-    → l ≡ after_put (queue_of limit) l t (map (change_of k) ds)
-put_same k ds w r limit l t e was all =
-    let d = widened (map (change_of k) ds) in
-    let is = (widened-parts k ds w r e was).1 in
-    let none : all_same d ≡ true = sym (same-records k d) ∙ ap (λ x. all_same (map (change_of k) x))
-    (sym is) ∙ sym all in
-    cond_both _ (l ++ pair_of_changes t d) l (λ x. l ≡ x)
-    (λ _. sym (ap (λ m. l ++ m) (cond-true (all_same d) [] (pair t d ∷ []) none) ∙ append-nil l))
-    (λ _. refl)
-    ∙ sym (put-joined (queue_of limit) l t (map (change_of k) ds))

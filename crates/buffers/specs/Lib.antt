@@ -1,2 +1,4 @@
 pub mod Impostors
+pub mod Rings
 pub mod Singles
+pub mod Turning

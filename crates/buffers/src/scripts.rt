@@ -2,6 +2,7 @@
 use crate::player::Act::{CopyOver, DropFirst, Forget, Put, PutAll, PutLong, Takes, Turn};
 use crate::player::Waits::{Both, Each, Empty, Still};
 use crate::player::{FULL, Layout, Memory, NOTHING, Script, TAKEN, play};
+use crate::ring::Ring;
 use crate::sample::Sample;
 use crate::single::Single;
 use row::{CELL_LIMIT, Change, FIELD_LIMIT, LogicRecord, Mark, TextRecord};
@@ -21,9 +22,18 @@ fn play_queue_of<R: Sample>(
     memory.check(rt, Layout::Queue, lists)
 }
 
+fn play_ring_of<R: Sample>(rt: &impl Abort, alloc: Global, script: Script<'_>) -> Result<(), Fail> {
+    let mut memory = Memory::new(alloc, QUEUE_LIMIT)?;
+    let lists = play::<R, Ring<'_, R>>(rt, alloc, Layout::Ring, &mut memory, script)?;
+    memory.check(rt, Layout::Ring, lists)
+}
+
+// A ring lists what waits as a queue does.
 fn play_queue(rt: &impl Abort, alloc: Global, script: Script<'_>) -> Result<(), Fail> {
     play_queue_of::<TextRecord>(rt, alloc, script)?;
-    play_queue_of::<LogicRecord>(rt, alloc, script)
+    play_queue_of::<LogicRecord>(rt, alloc, script)?;
+    play_ring_of::<TextRecord>(rt, alloc, script)?;
+    play_ring_of::<LogicRecord>(rt, alloc, script)
 }
 
 fn play_marks_of<R: Sample>(
@@ -76,6 +86,7 @@ fn check_lengths<R: Sample>(rt: &impl Abort, alloc: Global) -> Result<(), Fail> 
         let mut changes = vec![in alloc; Change::<R>::null(); len]?;
         assert!(rt; Queue::new(&mut changes).is_err(), "{len} changes");
         assert!(rt; Marks::new(&mut changes).is_err(), "{len} changes");
+        assert!(rt; Ring::new(&mut changes).is_err(), "{len} changes");
         assert!(rt; Single::new(&mut changes).is_err(), "{len} changes");
         assert!(rt;
             changes.iter().all(|change| change.mark == Mark::Null),
@@ -97,6 +108,7 @@ fn check_places<R: Sample>(rt: &impl Abort, alloc: Global) -> Result<(), Fail> {
             Marks::new(&mut changes).is_ok(),
             len == Marks::<R>::places()
         );
+        assert_eq!(rt; Ring::new(&mut changes).is_ok(), len == Ring::<R>::places());
         assert_eq!(rt;
             Single::new(&mut changes).is_ok(),
             len == Single::<R>::places()

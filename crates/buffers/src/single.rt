@@ -59,7 +59,7 @@ impl<'a, R: Value> Waiting<R> for Single<'a, R> {
         self.tap.is_none()
     }
 
-    #[tactic(auto, using(crate::proofs::One::put_same))]
+    #[tactic(auto, using(waiting::proofs::Putting::put_same))]
     fn put(&mut self, tap: Tap, delta: &[Change<R>]) -> Result<(), Refusal> {
         let whole = widen(delta)?;
         if !self.takes(tap) {

@@ -3,3 +3,4 @@ pub mod Canonical
 pub mod Forgetting
 pub mod QueueRows
 pub mod MarksIn
+pub mod Putting

@@ -98,7 +98,7 @@ first-removed n t x (p ∷ l) e f =
     (rising-parts n p l e).1 in
     ap (λ q. without t (q ∷ l)) same ∙ without-first t l above x
 
-numbered : (t n : ℕ) → Ok t ≡ tap_numbered n → t ≡ n
+pub numbered : (t n : ℕ) → Ok t ≡ tap_numbered n → t ≡ n
 numbered t n = from (is_tap n)
   where
     from : (b : Bool) → Ok t ≡ cond b (Ok n) (Err (refusal Absent 0)) → t ≡ n

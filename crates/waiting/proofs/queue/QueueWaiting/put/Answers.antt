@@ -17,6 +17,7 @@ use Rattle.waiting.proofs.Canonical.{length-widened, put-joined, widened, widene
 use Rattle.waiting.proofs.Canonical.{widened-means, widened-parts, widened-stored}
 use Rattle.waiting.proofs.QueueRows.{length-taken, room, list_all-set, queue-pushed, exact-pushed}
 use Rattle.waiting.proofs.QueueRows.{rows-pushed}
+use Rattle.waiting.proofs.Putting.{put_same}
 use Rattle.waiting.proofs.queue.QueueWaiting.put.Goals as goal
 
 pub bounds-self-i : goal.bounds-self-i
@@ -79,6 +80,13 @@ pushed g c =
     (length-widened k ds) stored
     ∙ (λ i. queued k q ++ pair (c.number.ensures i)
     (widened-means k g.met.R.Value.lawful ds i) ∷ [])
+
+pub returns-then-all_same-clause-meaning : goal.returns-then-all_same-clause-meaning
+returns-then-all_same-clause-meaning g c =
+    let k = g.R.Value.kind in
+    put_same k c.args.delta.now c.in_ok-whole.whole c.widen.result pair_limit
+    (queued k c.args.self.now) c.args.tap.number c.widen.ensures c.in_ok-whole.was
+    c.if-all_same.ensures
 
 pub returns-clause-meaning : goal.returns-clause-meaning
 returns-clause-meaning g c =
