@@ -20,9 +20,9 @@ use waiting::{
     widen,
 };
 
+// Tap numbers and no `Tap`, as in `Queue`.
 /// Up to `PAIR_LIMIT` pairs in as many rows of the lent memory, from the row on where the ring
 /// stands.
-// Tap numbers and no `Tap`, as in `Queue`.
 #[derive(Drop)]
 pub struct Ring<'a, R: Value> {
     changes: &'a mut [Change<R>],

@@ -11,8 +11,8 @@ ghost use Rattle.waiting.specs.Rows.{rows_wait};
 use row::{Change, FIELD_LIMIT, Fault, Refusal, Tap, Value, all_same, blank};
 use waiting::{OverSlice, Pair, Unfit, Waiting, copy_changes, widen};
 
-/// The number of the tap whose delta waits, if one does, and the delta: all same where none waits.
 // A number and no `Tap`, as in `Queue`.
+/// The number of the tap whose delta waits, if one does, and the delta: all same where none waits.
 #[derive(Drop)]
 pub struct Single<'a, R: Value> {
     changes: &'a mut [Change<R>],

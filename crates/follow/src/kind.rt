@@ -4,9 +4,12 @@ ghost use Rattle.follow.specs.Words.{kind_named, kind_word};
 
 use tlcp::{Worded, first_with};
 
+/// A kind of value that the program can be told to hear.
 #[derive(Clone, Copy, PartialEq, Debug)]
 pub enum Kind {
+    /// Texts of up to 32 bytes: the word `text`.
     Text,
+    /// Logic values of 1 to 32 bits: the word `logic`.
     Logic,
 }
 
@@ -24,8 +27,8 @@ impl Worded for Kind {
 }
 
 impl Kind {
-    /// The kind that a word stands for.
     // An `Option` says all there is; an error of `TryFrom` would say no more.
+    /// The kind that a word stands for.
     pub fn named(word: &str) -> Option<Kind>
         ensures { result ≡ kind_named word.now }
     {

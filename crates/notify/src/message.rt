@@ -4,11 +4,11 @@ ghost use Rattle.notify.specs.Given.{saying_of, within};
 
 use tlcp::{CODE_LIMIT, Limits, Tag};
 
+// A `tlcp::Notification` is what was read: it has U and the items too, and texts as they stand in a
+// line.
 /// A message of every tag but U. Texts are given as the bytes that they mean, and may be empty;
 /// item and item count are always 1. An ID is 1 to 9,999, `fields` 1 to 12, a code −999,999 to
 /// 999,999, and each other number 0 to 999,999,999.
-// A `tlcp::Notification` is what was read: it has U and the items too, and texts as they stand in a
-// line.
 #[derive(Clone, Copy)]
 pub enum Message<'a> {
     Probe,

@@ -9,9 +9,9 @@ const SESSIONS: Limits = Limits {
     high: 99_999,
 };
 
-/// The session that a word names.
 // An `Option` says all there is; `TryFrom` would want a type for a session's number, and an error
 // that says no more.
+/// The session that a word names.
 pub fn session_named(word: &str) -> Option<u32>
     ensures { result ≡ session_named word.now }
 {

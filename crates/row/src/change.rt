@@ -21,9 +21,9 @@ pub enum Mark {
     Value,
 }
 
-/// A change of one field. Where it is same or null, `raw` is the kind's rest record.
 // Not an enum whose cases hold the record: memory that is lent has a record in each place, and a case without one could not
 // say what its bytes are.
+/// A change of one field. Where it is same or null, `raw` is the kind's rest record.
 #[derive(Clone, Copy)]
 pub struct Change<R> {
     /// What the change does.
@@ -50,14 +50,6 @@ impl<R: Value> Cell<R> {
         Cell { null: true, raw }
     }
 
-    // The cell that holds what a record means.
-    fn holding(mut raw: R) -> Cell<R>
-        ensures { result ≡ cell_record R.kind (value (R.kind.text raw)) }
-    {
-        raw.canonicalize();
-        Cell { null: false, raw }
-    }
-
     /// Makes the cell hold the record of its meaning: the rest record where it is null, the rest value's
     /// where its record is not sound.
     pub fn canonicalize(&mut self)
@@ -75,14 +67,8 @@ impl<R: Value> Cell<R> {
     pub fn changed_by(mut self, by: Change<R>) -> Cell<R>
         ensures { result ≡ takes R.kind self by }
     {
-        match by.mark {
-            Mark::Same => {
-                self.canonicalize();
-                self
-            }
-            Mark::Null => Cell::null(),
-            Mark::Value => Cell::holding(by.raw),
-        }
+        self.step(&by);
+        self
     }
 }
 
@@ -172,12 +158,16 @@ trait Step<By>: Copy {
 impl<R: Value> Step<Change<R>> for Cell<R> {
     ghost after = { takes R.kind };
 
-    // most changes are same, and need no copy
+    // In place: a viewer does this for each place of a row that a line changes, and most changes are same.
     fn step(&mut self, by: &Change<R>) {
-        if by.is_same() {
-            self.canonicalize();
-        } else {
-            *self = self.changed_by(*by);
+        match by.mark {
+            Mark::Same => self.canonicalize(),
+            Mark::Null => *self = Cell::null(),
+            Mark::Value => {
+                self.null = false;
+                self.raw = by.raw;
+                self.raw.canonicalize();
+            }
         }
     }
 }

@@ -1,8 +1,8 @@
 //! Bytes up to a limit, held in place.
 ghost use Rattle.std.specs.Prelude.{◌≤◌};
 
-/// Bytes of which there are 0 to `N`: the first `len` of the array.
 // The library's `ArrayVec` is not `Copy`, and a request, which holds such texts, is.
+/// Bytes of which there are 0 to `N`: the first `len` of the array.
 #[derive(Clone, Copy)]
 pub struct Bounded<const N: usize> {
     pub(crate) bytes: [u8; N],

@@ -70,9 +70,9 @@ fn is_misshapen(s: &[u8]) -> bool
     matches!(s, [] | [b'0', _, ..])
 }
 
+// The library's `parse` takes a sign and leading zeros.
 /// The number that `s` writes; none where it is empty, has another byte than digits or a zero
 /// before other digits, or is beyond the limits.
-// The library's `parse` takes a sign and leading zeros.
 pub fn read_number(s: &[u8], limits: Limits) -> Option<u32>
     ensures value { result ≡ read_number limits.low limits.high s.now }
     ensures bound { IfSome result (λ n. (limits.low ≤ n) × (n ≤ limits.high)) }

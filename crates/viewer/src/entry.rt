@@ -2,9 +2,9 @@
 ghost use Rattle.std.specs.Prelude.{◌≡◌, ◌<◌, length, IfSome};
 ghost use Rattle.viewer.specs.Entries.{find_entry, find_open, fits, fits_open};
 
+// a viewer can be made with any IDs, so of an `Option` both `None` and `Some(0)` would be no ID
 /// What a viewer knows of a tap. The tap's cells do not stand here, since they lie in memory that
 /// is lent to the viewer for each line.
-// a viewer can be made with any IDs, so of an `Option` both `None` and `Some(0)` would be no ID
 #[derive(Clone, Copy, PartialEq, Debug)]
 pub struct Entry {
     /// The subscription ID, 0 for none.

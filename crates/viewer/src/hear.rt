@@ -23,10 +23,10 @@ pub enum Heard {
     Passed,
 }
 
-/// The viewer's entries, one for each tap. The cells of the taps are lent to it with each line:
-/// 96 of them, the row of the tap with index i, counted from 0, being the twelve from 12 * i on.
 // cells and changes are parameters of their own: a struct over both slices would need a clause in
 // each contract that it keeps their lengths, and of a generic type the checker covers no array
+/// The viewer's entries, one for each tap. The cells of the taps are lent to it with each line:
+/// 96 of them, the row of the tap with index i, counted from 0, being the twelve from 12 * i on.
 #[derive(Drop)]
 pub struct Viewer {
     entries: [Entry; TAP_LIMIT],

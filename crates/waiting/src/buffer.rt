@@ -109,9 +109,9 @@ pub trait Waiting<R: Value>: Drop {
     ghost holdable: { (w : Self) → policy.holds (meaning w) ≡ true };
 }
 
-/// A kind of waiting buffer over a lent slice of changes.
 // Apart from `Waiting`, since a struct with ghost fields may have no bound whose trait has a
 // lifetime.
+/// A kind of waiting buffer over a lent slice of changes.
 pub trait OverSlice<'a, R: Value>: Waiting<R> {
     ghost use Rattle.row.specs.declared.change.Change.{Change};
 

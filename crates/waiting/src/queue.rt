@@ -15,10 +15,10 @@ pub const PAIR_LIMIT: usize = 16;
 /// The changes of a queue's memory.
 pub const QUEUE_LIMIT: usize = PAIR_LIMIT * FIELD_LIMIT;
 
-/// Up to `PAIR_LIMIT` pairs: the tap of each by its number, and its delta as a row of the lent
-/// memory.
 // Tap numbers and no `Tap`, since a struct that holds a `&mut` may be no type argument where
 // a struct in it has an invariant
+/// Up to `PAIR_LIMIT` pairs: the tap of each by its number, and its delta as a row of the lent
+/// memory.
 #[derive(Drop)]
 pub struct Queue<'a, R: Value> {
     changes: &'a mut [Change<R>],

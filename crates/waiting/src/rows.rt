@@ -76,9 +76,9 @@ pub fn clear_row<R: Value>(changes: &mut [Change<R>], i: usize) -> Result<(), Re
     Ok(())
 }
 
+// A function, since a field's slice cannot be passed on beside another field's.
 /// Copies one memory to another, which is refused with 1, and nothing touched, where their lengths
 /// differ.
-// A function, since a field's slice cannot be passed on beside another field's.
 pub fn copy_changes<R: Copy>(from: &[Change<R>], to: &mut [Change<R>]) -> Result<(), Refusal>
     ensures answer { result ≡ answer_if (length from.now == length to.old) }
     ensures changes { to.new ≡ (if length from.now == length to.old then from.now else to.old) }
