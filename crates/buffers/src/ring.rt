@@ -16,8 +16,8 @@ ghost use Rattle.buffers.specs.Turning.{turned};
 
 use row::{Change, FIELD_LIMIT, Fault, Refusal, Tap, Value, all_same, blank};
 use waiting::{
-    OverSlice, PAIR_LIMIT, Pair, QUEUE_LIMIT, Unfit, Waiting, copy_changes, row_at, store_row,
-    widen,
+    OverSlice, PAIR_LIMIT, Pair, QUEUE_LIMIT, Unfit, Waiting, copy_changes, filled, row_at,
+    store_row,
 };
 
 // Tap numbers and no `Tap`, as in `Queue`.
@@ -122,7 +122,7 @@ impl<'a, R: Value> Waiting<R> for Ring<'a, R> {
     }
 
     fn put(&mut self, tap: Tap, delta: &[Change<R>]) -> Result<(), Refusal> {
-        let whole = widen(delta)?;
+        let whole = filled(delta)?;
         if !self.takes(tap) {
             return Err(Fault::Full.at(0));
         }

@@ -9,7 +9,7 @@ ghost use Rattle.row.specs.Taps.{is_tap};
 ghost use Rattle.waiting.specs.Rows.{rows_wait};
 
 use row::{Change, FIELD_LIMIT, Fault, Refusal, Tap, Value, all_same, blank};
-use waiting::{OverSlice, Pair, Unfit, Waiting, copy_changes, widen};
+use waiting::{OverSlice, Pair, Unfit, Waiting, copy_changes, filled};
 
 // A number and no `Tap`, as in `Queue`.
 /// The number of the tap whose delta waits, if one does, and the delta: all same where none waits.
@@ -61,7 +61,7 @@ impl<'a, R: Value> Waiting<R> for Single<'a, R> {
 
     #[tactic(auto, using(waiting::proofs::Putting::put_same))]
     fn put(&mut self, tap: Tap, delta: &[Change<R>]) -> Result<(), Refusal> {
-        let whole = widen(delta)?;
+        let whole = filled(delta)?;
         if !self.takes(tap) {
             return Err(Fault::Full.at(0));
         }

@@ -101,7 +101,7 @@ pub put-joined :
     ≡ cond (nat_le (length d) field_limit && b.takes m t) (b.after m t (widened d)) m
 put-joined b m t d = either-joined (b.after m t) m d (b.takes m t)
 
--- what `widen` hands out where it accepts
+-- what `filled` hands out where it accepts
 pub widened-parts :
     {R : Type 0} (k : Kind R) (ds w : List (Change R)) (r : Result (List (Change R)) Refusal)
     → r ≡ cond (nat_le (length ds) field_limit) (Ok (filled_changes k ds)) (Err memory_refusal)

@@ -13,4 +13,4 @@ pub use joins::joins_keep_their_laws;
 pub use lender::put_alone;
 pub use marks::Marks;
 pub use queue::{PAIR_LIMIT, QUEUE_LIMIT, Queue};
-pub use rows::{clear_row, copy_changes, row_at, store_row, widen};
+pub use rows::{clear_row, copy_changes, filled, row_at, store_row};

@@ -7,7 +7,7 @@ ghost use Rattle.waiting.specs.Lists.{pair};
 ghost use Rattle.waiting.specs.Policies.{first};
 
 use crate::buffer::{OverSlice, Pair, Unfit, Waiting};
-use crate::rows::{clear_row, copy_changes, join_row, row_at, widen};
+use crate::rows::{clear_row, copy_changes, filled, join_row, row_at};
 use row::{CELL_LIMIT, Change, Fault, Refusal, TAP_LIMIT, Tap, Value, all_same, blank};
 
 /// A row of the lent memory for each tap. A tap waits if its row has a change that is not same.
@@ -61,7 +61,7 @@ impl<'a, R: Value> Waiting<R> for Marks<'a, R> {
     }
 
     fn put(&mut self, tap: Tap, delta: &[Change<R>]) -> Result<(), Refusal> {
-        let whole = widen(delta)?;
+        let whole = filled(delta)?;
         join_row(self.changes, tap.index(), &whole);
         Ok(())
     }

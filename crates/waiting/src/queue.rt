@@ -6,7 +6,7 @@ ghost use Rattle.waiting.specs.Limits.{pair_limit, queue_limit};
 ghost use Rattle.waiting.specs.Rows.{rows_wait};
 
 use crate::buffer::{OverSlice, Pair, Unfit, Waiting};
-use crate::rows::{copy_changes, remove_row, row_at, store_row, widen};
+use crate::rows::{copy_changes, filled, remove_row, row_at, store_row};
 use row::{Change, FIELD_LIMIT, Fault, Refusal, Tap, Value, all_same, blank};
 
 /// The pairs that may wait.
@@ -91,7 +91,7 @@ impl<'a, R: Value> Waiting<R> for Queue<'a, R> {
     }
 
     fn put(&mut self, tap: Tap, delta: &[Change<R>]) -> Result<(), Refusal> {
-        let whole = widen(delta)?;
+        let whole = filled(delta)?;
         if !self.takes(tap) {
             return Err(Fault::Full.at(0));
         }

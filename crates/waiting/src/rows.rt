@@ -10,7 +10,7 @@ use row::{Change, FIELD_LIMIT, Refusal, Value, blank, canonicalize, join_delta};
 
 /// A delta of up to twelve changes in all the places of a row, same behind its own, each change by
 /// the record of its meaning. A longer one is refused with 1.
-pub fn widen<R: Value>(delta: &[Change<R>]) -> Result<[Change<R>; FIELD_LIMIT], Refusal>
+pub fn filled<R: Value>(delta: &[Change<R>]) -> Result<[Change<R>; FIELD_LIMIT], Refusal>
     ensures { result ≡ (if nat_le (length delta.now) field_limit
         then Ok (filled_changes R.kind delta.now)
         else Err memory_refusal) }

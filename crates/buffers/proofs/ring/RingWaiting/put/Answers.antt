@@ -25,15 +25,15 @@ push-requires-clause-room g c =
 pub returns-then-all_same-clause-meaning : goal.returns-then-all_same-clause-meaning
 returns-then-all_same-clause-meaning g c =
     let k = g.R.Value.kind in
-    put_same k c.args.delta.now c.in_ok-whole.whole c.widen.result pair_limit
-    (ringed k c.args.self.now) c.args.tap.number c.widen.ensures c.in_ok-whole.was
+    put_same k c.args.delta.now c.in_ok-whole.whole c.filled.result pair_limit
+    (ringed k c.args.self.now) c.args.tap.number c.filled.ensures c.in_ok-whole.was
     c.if-all_same.ensures
 
 pub returns-clause-answer : goal.returns-clause-answer
 returns-clause-answer g c =
     let k = g.R.Value.kind in
     let ds = c.args.delta.now in
-    let w = widened-parts k ds c.in_ok-whole.whole c.widen.result c.widen.ensures
+    let w = widened-parts k ds c.in_ok-whole.whole c.filled.result c.filled.ensures
     c.in_ok-whole.was in
     let few = ap (λ n. nat_le n field_limit) (length-map ds (change_of k)) ∙ w.0 in
     sym (cond-true _ _ _ few ∙ cond-true _ _ _ (sym c.if-not-takes.ensures))
@@ -45,7 +45,7 @@ returns-clause-meaning g c =
     let t = c.args.tap.number in
     let d = widened (map (change_of k) ds) in
     let l = ringed k c.args.self.now in
-    let w = widened-parts k ds c.in_ok-whole.whole c.widen.result c.widen.ensures
+    let w = widened-parts k ds c.in_ok-whole.whole c.filled.result c.filled.ensures
     c.in_ok-whole.was in
     let few = ap (λ n. nat_le n field_limit) (length-map ds (change_of k)) ∙ w.0 in
     let means = ap (map (change_of k)) w.1 ∙ widened-means k g.met.R.Value.lawful ds in

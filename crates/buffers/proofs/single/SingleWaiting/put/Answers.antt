@@ -8,7 +8,7 @@ invariant_of-self-clause-busy g c =
     let k = g.R.Value.kind in
     let now = c.args.self.now in
     let ds = c.args.delta.now in
-    let w = widened-parts k ds c.in_ok-whole.whole c.widen.result c.widen.ensures
+    let w = widened-parts k ds c.in_ok-whole.whole c.filled.result c.filled.ensures
     c.in_ok-whole.was in
     busy-one k g.met.R.Value.lawful ds c.in_ok-whole.whole now.changes.now
     c.copy_changes.new.to w.1 now.whole c.copy_changes.ensures.changes (sym c.if-all_same.ensures)
@@ -19,7 +19,7 @@ returns-clause-meaning g c =
     let k = g.R.Value.kind in
     let now = c.args.self.now in
     let ds = c.args.delta.now in
-    let w = widened-parts k ds c.in_ok-whole.whole c.widen.result c.widen.ensures
+    let w = widened-parts k ds c.in_ok-whole.whole c.filled.result c.filled.ensures
     c.in_ok-whole.was in
     let e = put-one k g.met.R.Value.lawful ds c.in_ok-whole.whole now.changes.now
     c.copy_changes.new.to w.1 now.whole c.copy_changes.ensures.changes now.tap c.args.tap.number w.0
@@ -31,7 +31,7 @@ returns-clause-exact g c = λ _.
     let k = g.R.Value.kind in
     let now = c.args.self.now in
     let ds = c.args.delta.now in
-    let w = widened-parts k ds c.in_ok-whole.whole c.widen.result c.widen.ensures
+    let w = widened-parts k ds c.in_ok-whole.whole c.filled.result c.filled.ensures
     c.in_ok-whole.was in
     exact-one k g.met.R.Value.lawful ds c.in_ok-whole.whole now.changes.now
     c.copy_changes.new.to w.1 now.whole c.copy_changes.ensures.changes c.number.result

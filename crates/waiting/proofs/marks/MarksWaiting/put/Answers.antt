@@ -15,7 +15,7 @@ returns-clause-meaning g c =
     let ds = c.args.delta.now in
     let t = c.args.tap.number in
     let place = tap_place t c.index.result c.args.tap.known c.index.ensures in
-    let w = widened-parts k ds c.in_ok-whole.whole c.widen.result c.widen.ensures
+    let w = widened-parts k ds c.in_ok-whole.whole c.filled.result c.filled.ensures
     c.in_ok-whole.was in
     joined-list k cs c.join_row.new.changes c.index.result c.args.self.now.whole place.0
     g.met.R.Value.lawful c.in_ok-whole.whole (ap length w.1 ∙ length-widened k ds)
@@ -31,7 +31,7 @@ returns-clause-exact g c =
     let k = g.R.Value.kind in
     let ds = c.args.delta.now in
     let place = tap_place c.args.tap.number c.index.result c.args.tap.known c.index.ensures in
-    let w = widened-parts k ds c.in_ok-whole.whole c.widen.result c.widen.ensures
+    let w = widened-parts k ds c.in_ok-whole.whole c.filled.result c.filled.ensures
     c.in_ok-whole.was in
     joined-exact k c.args.self.now.changes.now c.join_row.new.changes c.index.result
     c.args.self.now.whole place.0 g.met.R.Value.lawful c.in_ok-whole.whole

@@ -46,7 +46,7 @@ invariant_of-self-clause-busy g c =
     let q = c.args.self.now in
     let k = g.R.Value.kind in
     let ds = c.args.delta.now in
-    let w = widened-parts k ds c.in_ok-whole.whole c.widen.result c.widen.ensures
+    let w = widened-parts k ds c.in_ok-whole.whole c.filled.result c.filled.ensures
     c.in_ok-whole.was in
     let short = room k q.len pair_limit q.taps q.changes.now (omega arith)
     (sym c.if-not-takes.ensures) in
@@ -69,7 +69,7 @@ pushed g c =
     let q = c.args.self.now in
     let k = g.R.Value.kind in
     let ds = c.args.delta.now in
-    let w = widened-parts k ds c.in_ok-whole.whole c.widen.result c.widen.ensures
+    let w = widened-parts k ds c.in_ok-whole.whole c.filled.result c.filled.ensures
     c.in_ok-whole.was in
     let short = room k q.len pair_limit q.taps q.changes.now (omega arith)
     (sym c.if-not-takes.ensures) in
@@ -84,8 +84,8 @@ pushed g c =
 pub returns-then-all_same-clause-meaning : goal.returns-then-all_same-clause-meaning
 returns-then-all_same-clause-meaning g c =
     let k = g.R.Value.kind in
-    put_same k c.args.delta.now c.in_ok-whole.whole c.widen.result pair_limit
-    (queued k c.args.self.now) c.args.tap.number c.widen.ensures c.in_ok-whole.was
+    put_same k c.args.delta.now c.in_ok-whole.whole c.filled.result pair_limit
+    (queued k c.args.self.now) c.args.tap.number c.filled.ensures c.in_ok-whole.was
     c.if-all_same.ensures
 
 pub returns-clause-meaning : goal.returns-clause-meaning
@@ -96,7 +96,7 @@ returns-clause-meaning g c =
     let t = c.args.tap.number in
     let d = widened (map (change_of k) ds) in
     let l = queued k q in
-    let w = widened-parts k ds c.in_ok-whole.whole c.widen.result c.widen.ensures
+    let w = widened-parts k ds c.in_ok-whole.whole c.filled.result c.filled.ensures
     c.in_ok-whole.was in
     let few = ap (λ n. nat_le n field_limit) (length-map ds (change_of k)) ∙ w.0 in
     let some : all_same d ≡ false = ap all_same
@@ -117,7 +117,7 @@ returns-clause-exact g c = λ old.
     let d = widened (map (change_of k) ds) in
     let l = queued k q in
     let listed = queue-hold k q.len q.taps q.changes.now q.few q.whole q.known q.busy in
-    let w = widened-parts k ds c.in_ok-whole.whole c.widen.result c.widen.ensures
+    let w = widened-parts k ds c.in_ok-whole.whole c.filled.result c.filled.ensures
     c.in_ok-whole.was in
     let short = room k q.len pair_limit q.taps q.changes.now (omega arith)
     (sym c.if-not-takes.ensures) in

@@ -3,7 +3,7 @@ use Rattle.std.proofs.lemmas.Bool.{cond-true, le-leb}
 use Rattle.row.specs.Limits.{field_limit}
 use Rattle.row.specs.Records.{canonical}
 use Rattle.waiting.proofs.Canonical.{filled-records}
-use Rattle.waiting.proofs.rows.widen.Goals as goal
+use Rattle.waiting.proofs.rows.filled.Goals as goal
 
 pub returns : goal.returns
 returns g c =
