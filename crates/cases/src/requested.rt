@@ -5,7 +5,8 @@ use requests::{REQUEST_LIMIT, Request, read_request};
 use std::process::Abort;
 use std::test::*;
 
-// What a request asks for. An operation on a subscription has its ID. A `Request` holds its words in
+// What a request asks for. An operation on a subscription has its ID. A `Request` holds its words
+// in
 // arrays, with bytes behind them that say nothing, so a table cannot spell one.
 #[derive(Clone, Copy, PartialEq, Debug)]
 enum Asked {

@@ -1,7 +1,10 @@
 -- A request composed pair by pair: how far it came, and what is left where it stops.
-use Rattle.std.proofs.Common.{◌≡◌, ℕ, ◌+◌, ◌-◌, ◌<◌, ◌≤◌, Bool, true, false, cond, not, ◌&&◌, leb, List, [], ◌∷◌, ◌++◌, map, length, replicate, is_some, Ok, Err, Result, sym, refl, ap, ◌∙◌, subst, ⊎_elim, append_assoc, arith}
+use Rattle.std.proofs.Common.{◌≡◌, ℕ, ◌+◌, ◌-◌, ◌<◌, ◌≤◌, Bool, true, false, cond, not, ◌&&◌, leb}
+use Rattle.std.proofs.Common.{List, [], ◌∷◌, ◌++◌, map, length, replicate, is_some, Ok, Err, Result}
+use Rattle.std.proofs.Common.{sym, refl, ap, ◌∙◌, subst, ⊎_elim, append_assoc, arith}
 use Rattle.std.proofs.lemmas.List.{append-nil, length-append, length-drop, length-take-le}
-use Rattle.std.proofs.lemmas.Bool.{and_cases, and_parts, and_from, and_left, and_right, cond-true, cond-false, leb-true, leb-false, le-leb, lt-leb}
+use Rattle.std.proofs.lemmas.Bool.{and_cases, and_parts, and_from, and_left, and_right, cond-true}
+use Rattle.std.proofs.lemmas.Bool.{cond-false, leb-true, leb-false, le-leb, lt-leb}
 use Rattle.std.specs.Result.{result_map_both}
 use Rattle.std.specs.Prelude.{is_ok}
 use Rattle.std.specs.List.{AllByRecursion}
@@ -13,10 +16,14 @@ use Rattle.requests.specs.Limits.{value_limit}
 use Rattle.requests.specs.Names.{index_of, is_in, parameter_count, parameters_of}
 use Rattle.requests.specs.declared.name.Name.{Name}
 use Rattle.compose.specs.Written.{Assignment, given_by, head_text, written}
-use Rattle.compose.specs.Drafts.{Draft, unbegun, fresh, begin, is_open, addition, has_room, with_pair, add_answer, add_to, bytes_or, closed, ending, request_len, left_by, length_or}
+use Rattle.compose.specs.Drafts.{Draft, unbegun, fresh, begin, is_open, addition, has_room}
+use Rattle.compose.specs.Drafts.{with_pair, add_answer, add_to, bytes_or, closed, ending}
+use Rattle.compose.specs.Drafts.{request_len, left_by, length_or}
 use Rattle.compose.specs.Held.{Holds, finish_answer, finish_bytes}
-use Rattle.compose.specs.Composed.{add_all, are_short, composes, compose_answer, composed_or, composing, zeroed_or}
-use Rattle.compose.proofs.Holding.{written-push, length-padded, holds-finished, holds-fresh, holds_more, size-more}
+use Rattle.compose.specs.Composed.{add_all, are_short, composes, compose_answer, composed_or}
+use Rattle.compose.specs.Composed.{composing, zeroed_or}
+use Rattle.compose.proofs.Holding.{written-push, length-padded, holds-finished, holds-fresh}
+use Rattle.compose.proofs.Holding.{holds_more, size-more}
 
 pub length-placed : (at : ℕ) (t xs : List ℕ) → at + length t ≤ length xs
     → length (placed at t xs) ≡ length xs

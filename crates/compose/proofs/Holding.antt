@@ -1,11 +1,18 @@
 -- The pairs that a draft holds, before and behind each call.
-use Rattle.std.proofs.Common.{◌≡◌, ℕ, ◌+◌, ◌-◌, ◌<◌, ◌≤◌, Bool, true, false, cond, not, ◌&&◌, ◌||◌, eqb, leb, List, [], ◌∷◌, ◌++◌, map, length, get_or, drop, set, replicate, is_some, Some, None, Ok, Err, Option, Result, sym, refl, ap, ◌∙◌, subst, ⊎_elim, append_assoc, arith}
+use Rattle.std.proofs.Common.{◌≡◌, ℕ, ◌+◌, ◌-◌, ◌<◌, ◌≤◌, Bool, true, false, cond, not, ◌&&◌, ◌||◌}
+use Rattle.std.proofs.Common.{eqb, leb, List, [], ◌∷◌, ◌++◌, map, length, get_or, drop, set}
+use Rattle.std.proofs.Common.{replicate, is_some, Some, None, Ok, Err, Option, Result, sym, refl}
+use Rattle.std.proofs.Common.{ap, ◌∙◌, subst, ⊎_elim, append_assoc, arith}
 use Rattle.std.specs.Prelude.{is_ok}
 use Rattle.std.specs.Result.{result_map_both}
 use Rattle.std.specs.List.{AllByRecursion, flat_map}
-use Rattle.std.proofs.lemmas.List.{append-nil, length-append, length-replicate, length-set, get_or_past, get_or-replicate, get_or-set_same, get_or-set_other, flat_map_more, map_push, take_at, drop_at, drop-drop, drop-replicate}
+use Rattle.std.proofs.lemmas.List.{append-nil, length-append, length-replicate, length-set}
+use Rattle.std.proofs.lemmas.List.{get_or_past, get_or-replicate, get_or-set_same, get_or-set_other}
+use Rattle.std.proofs.lemmas.List.{flat_map_more, map_push, take_at, drop_at, drop-drop}
+use Rattle.std.proofs.lemmas.List.{drop-replicate}
 use Rattle.std.proofs.lemmas.Bool.Decides.{nat_tests}
-use Rattle.std.proofs.lemmas.Bool.{cases_lt, and_parts, cond_both, both_ways, cases_eq, eq-eqb, ne_eqb, leb-true, not-true, or_right, or_from}
+use Rattle.std.proofs.lemmas.Bool.{cases_lt, and_parts, cond_both, both_ways, cases_eq, eq-eqb}
+use Rattle.std.proofs.lemmas.Bool.{ne_eqb, leb-true, not-true, or_right, or_from}
 use Rattle.row.specs.Texts.{padded}
 use Rattle.row.specs.declared.fault.Refusal.{Refusal}
 use Rattle.tlcp.specs.Dividing.{joined_by}
@@ -16,7 +23,9 @@ use Rattle.requests.specs.Names.{index_of, is_in, parameter_count, parameters_of
 use Rattle.requests.specs.declared.name.Name.{Name}
 use Rattle.requests.specs.declared.name.Parameter.{Parameter}
 use Rattle.compose.specs.Written.{Assignment, given_by, head_text, pair_text, written}
-use Rattle.compose.specs.Drafts.{Draft, fresh, is_fresh, is_open, addition, has_room, with_pair, open_answer, bad_part, add_answer, add_to, closed, ending, request_len, left_by, length_or, begin, unbegun}
+use Rattle.compose.specs.Drafts.{Draft, fresh, is_fresh, is_open, addition, has_room, with_pair}
+use Rattle.compose.specs.Drafts.{open_answer, bad_part, add_answer, add_to, closed, ending}
+use Rattle.compose.specs.Drafts.{request_len, left_by, length_or, begin, unbegun}
 use Rattle.compose.specs.Held.{Holds, Tally, finish_answer, finish_bytes, pairs_after}
 
 pub length-padded : (n : ℕ) (t : List ℕ) → length t ≤ n → length (padded n t) ≡ n

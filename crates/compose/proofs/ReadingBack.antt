@@ -1,5 +1,7 @@
 -- What is written is read back: it is short enough, and it asks for what its pairs say.
-use Rattle.std.proofs.Common.{◌≡◌, ℕ, ◌+◌, ◌*◌, ◌/◌, ◌%◌, ◌<◌, ◌≤◌, Bool, true, false, cond, ◌||◌, eqb, List, [], ◌∷◌, ◌++◌, map, length, is_some, Some, None, Option, sym, refl, ap, ◌∙◌, append_assoc, arith, lit≤}
+use Rattle.std.proofs.Common.{◌≡◌, ℕ, ◌+◌, ◌*◌, ◌/◌, ◌%◌, ◌<◌, ◌≤◌, Bool, true, false, cond, ◌||◌}
+use Rattle.std.proofs.Common.{eqb, List, [], ◌∷◌, ◌++◌, map, length, is_some, Some, None, Option}
+use Rattle.std.proofs.Common.{sym, refl, ap, ◌∙◌, append_assoc, arith, lit≤}
 use Rattle.std.specs.List.{AllByRecursion}
 use Rattle.std.proofs.ByRecursion.{All-weaker}
 use Rattle.std.proofs.lemmas.List.{length-append, length-drop, length-map}
@@ -18,7 +20,9 @@ use Rattle.requests.specs.declared.name.Form.{Form}
 use Rattle.requests.specs.declared.name.Name.{Name}
 use Rattle.requests.specs.declared.name.Name.TheVariants.{CreateSession, BindSession, Control}
 use Rattle.requests.specs.declared.name.Parameter.{Parameter}
-use Rattle.requests.specs.declared.name.Parameter.TheVariants.{Cid, User, Password, Session, RequestId, Operation, SubscriptionId, Group, Schema, Mode, Snapshot}
+use Rattle.requests.specs.declared.name.Parameter.TheVariants.{Cid, User, Password, Session}
+use Rattle.requests.specs.declared.name.Parameter.TheVariants.{RequestId, Operation, SubscriptionId}
+use Rattle.requests.specs.declared.name.Parameter.TheVariants.{Group, Schema, Mode, Snapshot}
 use Rattle.compose.specs.Written.{Assignment, given_by, head_text, written}
 use Rattle.compose.specs.Held.{Writable, WithinLimit}
 use Rattle.compose.specs.ReadBack.{Keeps, value_in, ReadsBack}
@@ -179,7 +183,12 @@ sound-given : (xs : List Assignment)
     → AllByRecursion Readable (map given_by xs)
 sound-given [] bytes short = tt
 sound-given (x ∷ xs) bytes short = (
-  record { plain = plain_by x.value bytes.0; decodes = decodes-by is_reserved reserved-percent x.value bytes.0; short = short.0 },
+  record {
+    plain =
+        plain_by x.value bytes.0;
+    decodes = decodes-by is_reserved reserved-percent x.value bytes.0;
+    short = short.0;
+  },
   sound-given xs bytes.1 short.1,
 )
 

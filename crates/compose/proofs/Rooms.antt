@@ -1,5 +1,7 @@
 -- Pairs of a name, none of them twice, are refused only for their lengths or the room.
-use Rattle.std.proofs.Common.{◌≡◌, ℕ, ◌+◌, ◌≤◌, Bool, true, false, eqb, List, [], ◌∷◌, ◌++◌, map, length, is_some, Some, Ok, Err, sym, refl, ap, ◌∙◌, subst, append_assoc, arith}
+use Rattle.std.proofs.Common.{◌≡◌, ℕ, ◌+◌, ◌≤◌, Bool, true, false, eqb, List, [], ◌∷◌, ◌++◌, map}
+use Rattle.std.proofs.Common.{length, is_some, Some, Ok, Err, sym, refl, ap, ◌∙◌, subst}
+use Rattle.std.proofs.Common.{append_assoc, arith}
 use Rattle.std.specs.List.{AllByRecursion}
 use Rattle.std.proofs.lemmas.List.{append-nil}
 use Rattle.std.proofs.lemmas.Bool.{and_from, both_ways, cond_both, cond-true, le-leb}
@@ -19,7 +21,9 @@ use Rattle.compose.specs.Held.{none_or}
 use Rattle.compose.specs.ReadBack.{Keeps, value_in}
 use Rattle.compose.specs.Written.{Assignment, given_by, head_text, written}
 use Rattle.compose.proofs.ReadingBack.{keeps-fit}
-use Rattle.compose.proofs.Composing.{Composed, Reached, add-reached, add-refused, answered, are-short, begin-reached, begin-refused, finish-composed, settled}
+use Rattle.compose.proofs.Composing.{Composed, Reached, add-reached, add-refused, answered}
+use Rattle.compose.proofs.Composing.{are-short, begin-reached, begin-refused, finish-composed}
+use Rattle.compose.proofs.Composing.{settled}
 use Rattle.compose.proofs.Holding.{eqb-turned}
 
 -- a pair is found, whatever stands before and behind it

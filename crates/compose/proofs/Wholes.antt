@@ -1,5 +1,7 @@
 -- Pairs added one after another.
-use Rattle.std.proofs.Common.{◌≡◌, ℕ, ◌+◌, ◌<◌, ◌≤◌, Bool, true, false, cond, not, ◌&&◌, leb, List, length, get_or, drop, replicate, Ok, Err, Result, sym, refl, ap, ◌∙◌, arith}
+use Rattle.std.proofs.Common.{◌≡◌, ℕ, ◌+◌, ◌<◌, ◌≤◌, Bool, true, false, cond, not, ◌&&◌, leb, List}
+use Rattle.std.proofs.Common.{length, get_or, drop, replicate, Ok, Err, Result, sym, refl, ap, ◌∙◌}
+use Rattle.std.proofs.Common.{arith}
 use Rattle.std.proofs.lemmas.List.{at_drop_more, at_drop_all, get_or-map, length-map}
 use Rattle.std.proofs.lemmas.Bool.{and_parts, cond_both, cond-true, cond-false, leb-true}
 use Rattle.tlcp.specs.Lines.{and_then}
@@ -8,7 +10,8 @@ use Rattle.tlcp.specs.Written.{fits}
 use Rattle.requests.specs.Limits.{value_limit}
 use Rattle.requests.specs.declared.name.Name.{Name}
 use Rattle.compose.specs.Composed.{add_all, composing, zeroed_or}
-use Rattle.compose.specs.Drafts.{Draft, add_answer, add_to, addition, begin, bytes_or, closed, ending, fresh, has_room, is_open, left_by, unbegun, with_pair}
+use Rattle.compose.specs.Drafts.{Draft, add_answer, add_to, addition, begin, bytes_or, closed}
+use Rattle.compose.specs.Drafts.{ending, fresh, has_room, is_open, left_by, unbegun, with_pair}
 use Rattle.compose.specs.Assignments.{assignment_in, assignments_in}
 use Rattle.compose.specs.Written.{Assignment, head_text}
 use Rattle.compose.specs.declared.assignment.Assignment as memory

@@ -1,5 +1,6 @@
 -- A whole request, composed or refused.
-use Rattle.std.specs.Prelude.{◌≡◌, ℕ, Bool, true, cond, ◌&&◌, List, [], ◌∷◌, map, length, replicate, Ok, Err, Result, nat_le}
+use Rattle.std.specs.Prelude.{◌≡◌, ℕ, Bool, true, cond, ◌&&◌, List, [], ◌∷◌, map, length, replicate}
+use Rattle.std.specs.Prelude.{Ok, Err, Result, nat_le}
 use Rattle.std.specs.List.{AllByRecursion}
 use Rattle.row.specs.declared.fault.Refusal.{Refusal}
 use Rattle.tlcp.specs.Lines.{and_then}

@@ -1,5 +1,6 @@
 -- A request that is being written: what its writer holds, and what each call makes of that.
-use Rattle.std.specs.Prelude.{ℕ, ◌+◌, Bool, true, false, cond, not, ◌&&◌, List, length, replicate, Ok, Err, Result, is_ok, ◌==◌, nat_le, slice_index_or, slice_set}
+use Rattle.std.specs.Prelude.{ℕ, ◌+◌, Bool, true, false, cond, not, ◌&&◌, List, length, replicate}
+use Rattle.std.specs.Prelude.{Ok, Err, Result, is_ok, ◌==◌, nat_le, slice_index_or, slice_set}
 use Rattle.row.specs.Faults.{refusal}
 use Rattle.std.specs.Result.{result_map_both}
 use Rattle.row.specs.Texts.{padded}

@@ -1,5 +1,6 @@
 -- Which pairs the bytes of a request hold.
-use Rattle.std.specs.Prelude.{◌≡◌, ℕ, ◌≤◌, Bool, true, false, List, [], ◌∷◌, ◌++◌, map, length, replicate, is_some, Ok, Err, Result, slice_index_or}
+use Rattle.std.specs.Prelude.{◌≡◌, ℕ, ◌≤◌, Bool, true, false, List, [], ◌∷◌, ◌++◌, map, length}
+use Rattle.std.specs.Prelude.{replicate, is_some, Ok, Err, Result, slice_index_or}
 use Rattle.std.specs.List.{AllByRecursion}
 use Rattle.row.specs.Texts.{padded}
 use Rattle.row.specs.declared.fault.Refusal.{Refusal}
@@ -54,4 +55,5 @@ finish_bytes name xs n = none_or xs (replicate n 0) (padded n (written name xs))
 -- what is written is never longer than a request may be
 abbrev pub WithinLimit : Type 0
 WithinLimit =
-    (name : Name) (xs : List Assignment) → Writable name xs → length (written name xs) ≤ request_limit
+    (name : Name) (xs : List Assignment) → Writable name xs → length (written name xs)
+    ≤ request_limit

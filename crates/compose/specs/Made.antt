@@ -1,5 +1,6 @@
 -- The parts of a request writer, and what holds of them whatever was called.
-use Rattle.std.specs.Prelude.{◌≡◌, ℕ, Bool, true, false, List, replicate, is_some, None, Some, Option}
+use Rattle.std.specs.Prelude.{◌≡◌, ℕ, Bool, true, false, List, replicate, is_some, None, Some}
+use Rattle.std.specs.Prelude.{Option}
 use Rattle.requests.specs.Names.{parameter_count}
 use Rattle.requests.specs.declared.name.Name.{Name}
 use Rattle.compose.specs.Held.{Tally}

@@ -16,7 +16,8 @@ use Rattle.compose.specs.Written.{Assignment, given_by, written}
 abbrev pub value_in : List Assignment → Parameter → Option (List ℕ)
 value_in xs = found (map given_by xs)
 
--- values as the writer takes them, no parameter twice, and just what a form has in a request for this session
+-- values as the writer takes them, no parameter twice, and just what a form has in a request for
+-- this session
 pub record Keeps (session : ℕ) (name : Name) (form : Form) (xs : List Assignment) : Type 0 where
   pub bytes : AllByRecursion (λ x. AllByRecursion (λ b. b < 256) x.value) xs
   pub short : AllByRecursion (λ x. length x.value ≤ value_limit) xs

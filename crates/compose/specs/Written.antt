@@ -20,7 +20,8 @@ assign p v = record { parameter = p; value = v }
 
 -- what a pair gives in a request: all bytes of the value but the unreserved ones are escaped
 abbrev pub given_by : Assignment → Given
-given_by x = record { parameter = x.parameter; raw = encoded_by is_reserved x.value; text = x.value }
+given_by x =
+    record { parameter = x.parameter; raw = encoded_by is_reserved x.value; text = x.value }
 
 abbrev pub head_text : Name → List ℕ
 head_text n = name_word n ++ (13 ∷ 10 ∷ [])

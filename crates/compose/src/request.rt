@@ -4,7 +4,8 @@ ghost use Rattle.std.specs.Result.{result_map_both};
 ghost use Rattle.requests.specs.Limits.{request_limit};
 ghost use Rattle.compose.specs.Written as written;
 ghost use Rattle.compose.specs.Written.{assign, head_text};
-ghost use Rattle.compose.specs.Drafts.{add_answer, add_to, begin, closed, ending, request_len, left_by, length_or};
+ghost use Rattle.compose.specs.Drafts.{add_answer, add_to, begin, closed, ending, request_len};
+ghost use Rattle.compose.specs.Drafts.{left_by, length_or};
 ghost use Rattle.compose.specs.Made.{Made, len_of};
 ghost use Rattle.compose.specs.Held.{Holds, WithinLimit, finish_answer, finish_bytes, pairs_after};
 ghost use Rattle.compose.specs.ReadBack.{ReadsBack};
@@ -116,7 +117,8 @@ impl<'a> RequestWriter<'a> {
     /// bytes or a pair that does not fit. A refused pair changes nothing.
     pub fn add(&mut self, parameter: Parameter, value: &[u8]) -> Result<(), Refusal>
         ensures answer { result ≡ add_answer (draft_of self.old) (assign parameter value.now) }
-        ensures draft { draft_of self.new ≡ add_to (draft_of self.old) (assign parameter value.now) }
+        ensures draft { draft_of self.new
+            ≡ add_to (draft_of self.old) (assign parameter value.now) }
         ensures pairs { (xs : List written.Assignment) → Holds (draft_of self.old) xs
             → Holds (draft_of self.new) (pairs_after result xs (assign parameter value.now)) }
         ensures lent { self.new.out.ghost_name ≡ self.old.out.ghost_name }

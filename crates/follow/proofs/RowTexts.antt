@@ -1,5 +1,6 @@
 -- The rows one behind another.
-use Rattle.std.proofs.Common.{◌≡◌, ℕ, ◌+◌, ◌*◌, List, [], ◌∷◌, ◌++◌, length, take, drop, sym, refl, ap, ◌∙◌, arith}
+use Rattle.std.proofs.Common.{◌≡◌, ℕ, ◌+◌, ◌*◌, List, [], ◌∷◌, ◌++◌, length, take, drop, sym, refl}
+use Rattle.std.proofs.Common.{ap, ◌∙◌, arith}
 use Rattle.std.proofs.Math.Seq.{drop-append-add, take-append_seam}
 use Rattle.row.specs.Kinds.{Kind}
 use Rattle.row.specs.Limits.{field_limit}
@@ -16,11 +17,15 @@ module _ {R : Type 0} (k : Kind R) (row rest : List (Cell R)) (long : length row
   later-row : (i : ℕ) → row_at (i + 1) (row ++ rest) ≡ row_at i rest
   later-row i =
       let next : field_limit * (i + 1) ≡ length row + field_limit * i = omega arith in
-      ap (λ n. take field_limit (drop n (row ++ rest))) next ∙ ap (take field_limit) (drop-append-add row rest (field_limit * i))
+      ap (λ n. take field_limit (drop n (row ++ rest))) next
+      ∙ ap (take field_limit) (drop-append-add row rest (field_limit * i))
 
-  later-rows : (i : ℕ) (es : List Entry) → rows_from k (i + 1) es (row ++ rest) ≡ rows_from k i es rest
+  later-rows :
+      (i : ℕ) (es : List Entry) → rows_from k (i + 1) es (row ++ rest) ≡ rows_from k i es rest
   later-rows i [] = refl
   later-rows i (e ∷ es) = λ j. row_text k e (later-row i j) ++ later-rows (i + 1) es j
 
-  pub row-first : (e : Entry) (es : List Entry) → rows_text k (e ∷ es) (row ++ rest) ≡ row_text k e row ++ rows_text k es rest
+  pub row-first :
+      (e : Entry) (es : List Entry)
+      → rows_text k (e ∷ es) (row ++ rest) ≡ row_text k e row ++ rows_text k es rest
   row-first e es = λ j. row_text k e (first-row j) ++ later-rows 0 es j

@@ -1,5 +1,6 @@
 -- What is printed: an answer to each line, and at the end the open rows.
-use Rattle.std.specs.Prelude.{ℕ, Some, None, Option, ◌+◌, ◌&&◌, cond, List, [], ◌∷◌, ◌++◌, Ok, Err, codes, Result}
+use Rattle.std.specs.Prelude.{ℕ, Some, None, Option, ◌+◌, ◌&&◌, cond, List, [], ◌∷◌, ◌++◌, Ok, Err}
+use Rattle.std.specs.Prelude.{codes, Result}
 use Rattle.row.specs.Faults.{printed}
 use Rattle.row.specs.Kinds.{Kind}
 use Rattle.row.specs.Records.{whole_changes}

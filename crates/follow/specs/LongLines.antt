@@ -1,6 +1,7 @@
 -- A line that is longer than a line may be is refused whatever it holds, so its first bytes tell
 -- its answer.
-use Rattle.std.proofs.Common.{◌≡◌, ℕ, ◌<◌, List, length, map, leb, cond, Err, Result, ap, sym, ◌∙◌, lit≤}
+use Rattle.std.proofs.Common.{◌≡◌, ℕ, ◌<◌, List, length, map, leb, cond, Err, Result, ap, sym, ◌∙◌}
+use Rattle.std.proofs.Common.{lit≤}
 use Rattle.std.proofs.lemmas.Bool.{cond-false, lt-leb}
 use Rattle.row.specs.Faults.{refusal}
 use Rattle.row.specs.Kinds.{Kind}

@@ -1,5 +1,6 @@
 -- What a printed row is to whoever hears it.
-use Rattle.std.specs.Prelude.{◌≡◌, ℕ, ◌-◌, ◌≤◌, List, [], ◌∷◌, ◌++◌, map, length, replicate, take, Ok}
+use Rattle.std.specs.Prelude.{◌≡◌, ℕ, ◌-◌, ◌≤◌, List, [], ◌∷◌, ◌++◌, map, length, replicate, take}
+use Rattle.std.specs.Prelude.{Ok}
 use Rattle.row.specs.Kinds.{Kind}
 use Rattle.row.specs.Limits.{cell_limit, field_limit, tap_limit}
 use Rattle.row.specs.Records.{cell_of, whole_changes}

@@ -1,5 +1,7 @@
 -- Bytes that stand in no line: those that are escaped in texts and are no sign of a line's own.
-use Rattle.std.proofs.Common.{◌≡◌, ℕ, zero, suc, ◌+◌, ◌^◌, ◌<◌, ◌≤◌, Bool, true, false, not, eqb, leb, List, [], ◌∷◌, length, drop, replicate, ℤ, nat_abs, decimal, refl, arith, rules}
+use Rattle.std.proofs.Common.{◌≡◌, ℕ, zero, suc, ◌+◌, ◌^◌, ◌<◌, ◌≤◌, Bool, true, false, not, eqb}
+use Rattle.std.proofs.Common.{leb, List, [], ◌∷◌, length, drop, replicate, ℤ, nat_abs, decimal}
+use Rattle.std.proofs.Common.{refl, arith, rules}
 use Rattle.std.specs.Fmt.{signed_decimal}
 use Rattle.std.specs.List.{AllByRecursion}
 use Rattle.std.proofs.ByRecursion.{All-append}
@@ -58,7 +60,9 @@ module _ (c : ℕ) (apart : Apart c) where
   has_value : (t : List ℕ) → Bytes t → has c (text_value t) ≡ false
   has_value t bytes = search (rules, has_one, has-encode c apart.digit apart.percent other)
 
-  free-written : (d : List Change) (n : ℕ) → n + length d ≤ field_limit → AllByRecursion BytesIn d → Free (written_values n d)
+  free-written :
+      (d : List Change) (n : ℕ) → n + length d ≤ field_limit → AllByRecursion BytesIn d
+      → Free (written_values n d)
   free-written [] n few bytes = free-run n (omega arith)
   free-written (same ∷ d) n few bytes = free-written d (suc n) (omega arith) bytes.1
   free-written (becomes null ∷ d) n few bytes =
@@ -68,11 +72,15 @@ module _ (c : ℕ) (apart : Apart c) where
 
   has-piped : (vs : List (List ℕ)) → Free vs → has c (each_piped vs) ≡ false
   has-piped [] free = refl
-  has-piped (v ∷ vs) free = or_from (eqb 124 c) _ apart.pipe (has-append c v (each_piped vs) free.0 (has-piped vs free.1))
+  has-piped (v ∷ vs) free =
+      or_from (eqb 124 c) _ apart.pipe (has-append c v (each_piped vs) free.0 (has-piped vs free.1))
 
   has-behind : (s : List ℕ) → has c s ≡ false → has c (drop 1 s) ≡ false
   has-behind [] h = refl
   has-behind (b ∷ s) h = search (rules, or_parts)
 
-  pub has-list : (d : List Change) → length d ≤ field_limit → AllByRecursion BytesIn d → has c (written_list d) ≡ false
-  has-list d few bytes = has-behind (each_piped (written_values 0 d)) (has-piped (written_values 0 d) (free-written d 0 (omega arith) bytes))
+  pub has-list :
+      (d : List Change) → length d ≤ field_limit → AllByRecursion BytesIn d
+      → has c (written_list d) ≡ false
+  has-list d few bytes =
+      has-behind (each_piped (written_values 0 d)) (has-piped (written_values 0 d) (free-written d 0 (omega arith) bytes))

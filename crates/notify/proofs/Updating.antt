@@ -1,5 +1,6 @@
 -- Updates: their lines are short, and are read back.
-use Rattle.std.proofs.Common.{◌≡◌, ℕ, ◌≤◌, true, eqb, List, [], ◌∷◌, map, length, take, Ok, Err, Result, sym, ap, ◌∙◌, arith, rules}
+use Rattle.std.proofs.Common.{◌≡◌, ℕ, ◌≤◌, true, eqb, List, [], ◌∷◌, map, length, take, Ok, Err}
+use Rattle.std.proofs.Common.{Result, sym, ap, ◌∙◌, arith, rules}
 use Rattle.std.specs.List.{AllByRecursion}
 use Rattle.std.proofs.lemmas.Fmt.{length-decimal-le}
 use Rattle.std.proofs.lemmas.List.{length-append, length-map, length-take-le}
@@ -20,14 +21,18 @@ use Rattle.tlcp.specs.Lines as lines
 use Rattle.tlcp.specs.Lines.{word}
 use Rattle.tlcp.specs.declared.tag.Tag.TheVariants.{U}
 use Rattle.notify.specs.Given.{number, argued, is_within, line_text}
-use Rattle.notify.specs.Back.{Accepted, BytesIn, FromMemory, Update, UpdateBack, UpdateShort, UpdateUnbroken}
+use Rattle.notify.specs.Back.{Accepted, BytesIn, FromMemory, Update, UpdateBack, UpdateShort}
+use Rattle.notify.specs.Back.{UpdateUnbroken}
 use Rattle.notify.specs.Composed.{composed}
 use Rattle.notify.specs.Written.{update_of, update_answer, update_placed}
 use Rattle.notify.proofs.Backing.{read_back, unbroken}
 use Rattle.notify.proofs.Composing.{composed-is, word-short}
 
 -- what the tests of a writer show
-pub update-from : {R : Type 0} (k : Kind R) (id : ℕ) (delta : List (Change R)) (fields : ℕ) → length delta ≡ field_limit → true ≡ is_within lines.id (number id) → covers fields ≡ true → Update k id delta fields
+pub update-from :
+    {R : Type 0} (k : Kind R) (id : ℕ) (delta : List (Change R)) (fields : ℕ)
+    → length delta ≡ field_limit → true ≡ is_within lines.id (number id) → covers fields ≡ true
+    → Update k id delta fields
 update-from k id delta fields whole is covered = record {
   whole = whole;
   id-within = search rules;
@@ -76,12 +81,16 @@ module _ {R : Type 0} (k : Kind R) (law : Lawful k) where
 
     -- it is composed whole
     module _ (h : Update k id delta fields) where
-      composed-whole : composed (word U) (update_of k id delta fields).given ≡ Ok (line_text (update_of k id delta fields))
+      composed-whole :
+          composed (word U) (update_of k id delta fields).given
+          ≡ Ok (line_text (update_of k id delta fields))
       composed-whole =
           let s = update_of k id delta fields in
-          composed-is (word U) s.given (word-short U) ∙ cond-true _ (Ok (line_text s)) (Err no_room) (le-leb _ line_limit (omega (arith, update-short h, length-append (word U) (argued s.given))))
+          composed-is (word U) s.given (word-short U)
+          ∙ cond-true _ (Ok (line_text s)) (Err no_room) (le-leb _ line_limit (omega (arith, update-short h, length-append (word U) (argued s.given))))
 
-      pub update-unrefused : (e : Refusal) → Err e ≡ composed (word U) (update_of k id delta fields).given → ⊥
+      pub update-unrefused :
+          (e : Refusal) → Err e ≡ composed (word U) (update_of k id delta fields).given → ⊥
       update-unrefused e is = let z : ◌≡◌ {A = ℕ} 0 1 = cc (is ∙ composed-whole) in omega arith
 
       module _ (line : List ℕ) (is : Ok line ≡ composed (word U) (update_of k id delta fields).given) (at : ℕ) (xs : List ℕ) where
@@ -91,8 +100,15 @@ module _ {R : Type 0} (k : Kind R) (law : Lawful k) where
         long : eqb (length delta) field_limit ≡ true
         long = eq-eqb _ field_limit h.whole
 
-        pub update-answer : {r : Result ℕ Refusal} → r ≡ end_or at line xs → r ≡ update_answer k id delta fields at xs
-        update-answer e = e ∙ ap (λ l. end_or at l xs) same ∙ sym (cond-true _ _ _ long ∙ cond-true _ _ _ h.id-within ∙ cond-true _ _ _ h.fields_within)
+        pub update-answer :
+            {r : Result ℕ Refusal} → r ≡ end_or at line xs
+            → r ≡ update_answer k id delta fields at xs
+        update-answer e =
+            e ∙ ap (λ l. end_or at l xs) same
+            ∙ sym (cond-true _ _ _ long ∙ cond-true _ _ _ h.id-within ∙ cond-true _ _ _ h.fields_within)
 
-        pub update-placed : {ys : List ℕ} → ys ≡ placed_or at line xs → ys ≡ update_placed k id delta fields at xs
-        update-placed e = e ∙ ap (λ l. placed_or at l xs) same ∙ sym (cond-true _ _ _ long ∙ cond-true _ _ _ h.id-within ∙ cond-true _ _ _ h.fields_within)
+        pub update-placed :
+            {ys : List ℕ} → ys ≡ placed_or at line xs → ys ≡ update_placed k id delta fields at xs
+        update-placed e =
+            e ∙ ap (λ l. placed_or at l xs) same
+            ∙ sym (cond-true _ _ _ long ∙ cond-true _ _ _ h.id-within ∙ cond-true _ _ _ h.fields_within)

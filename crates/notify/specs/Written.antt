@@ -34,7 +34,8 @@ line_placed s at xs =
 module _ {R : Type 0} (k : Kind R) where
   -- an update of the first fields of a row
   abbrev pub update_of : ℕ → List (Change R) → ℕ → Saying
-  update_of id delta fields = saying U (number id ∷ one_item ∷ list (changes_of k delta fields) ∷ [])
+  update_of id delta fields =
+      saying U (number id ∷ one_item ∷ list (changes_of k delta fields) ∷ [])
 
   abbrev pub update_answer : ℕ → List (Change R) → ℕ → ℕ → List ℕ → Result ℕ Refusal
   update_answer id delta fields at xs =

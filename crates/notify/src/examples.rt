@@ -1,4 +1,5 @@
-//! Worked examples of written lines, as theorems on the definitions. Nothing runs: the contract is a
+//! Worked examples of written lines, as theorems on the definitions. Nothing runs: the contract is
+//! a
 //! table whose rows are written out.
 ghost use Rattle.notify.specs.Examples.{Examples};
 

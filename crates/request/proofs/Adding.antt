@@ -5,7 +5,8 @@ use Rattle.tlcp.specs.Lines.{and_then}
 use Rattle.requests.specs.Requests.{Request}
 use Rattle.requests.specs.declared.name.Name.{Name}
 use Rattle.compose.specs.Composed.{add_all, composing, zeroed_or}
-use Rattle.compose.specs.Drafts.{Draft, add_answer, add_to, begin, bytes_or, closed, ending, left_by, length_or}
+use Rattle.compose.specs.Drafts.{Draft, add_answer, add_to, begin, bytes_or, closed, ending}
+use Rattle.compose.specs.Drafts.{left_by, length_or}
 use Rattle.compose.specs.Written.{Assignment}
 use Rattle.compose.proofs.Wholes.{Open, finished-left, open-add, open-begin}
 use Rattle.request.specs.Anew.{Anew, name_for, pairs_for}

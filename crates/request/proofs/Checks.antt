@@ -1,5 +1,6 @@
 -- What came of a line that spells bytes.
-use Rattle.std.proofs.Common.{◌≡◌, ℕ, ◌≤◌, List, length, take, replicate, Some, Ok, Err, Result, sym, ap, ◌∙◌}
+use Rattle.std.proofs.Common.{◌≡◌, ℕ, ◌≤◌, List, length, take, replicate, Some, Ok, Err, Result}
+use Rattle.std.proofs.Common.{sym, ap, ◌∙◌}
 use Rattle.std.proofs.lemmas.Bool.{cond-true, le-leb}
 use Rattle.tlcp.specs.Lines.{and_then}
 use Rattle.std.specs.Result.{result_map_both}
@@ -12,15 +13,24 @@ use Rattle.request.specs.Checking.{anew_text, checked, read_spelled}
 use Rattle.request.specs.Limits.{spelled_limit}
 use Rattle.request.specs.Spelling.{unspelled}
 
-pub text_of : (x : Result Draft Refusal) (other : List ℕ) (r : Result ℕ Refusal) (bytes : List ℕ) → r ≡ length_or x → bytes ≡ bytes_or other x → result_map_both (λ n. take n bytes) (λ e. e) r ≡ result_map_both (λ d. take d.len d.bytes) (λ e. e) x
+pub text_of :
+    (x : Result Draft Refusal) (other : List ℕ) (r : Result ℕ Refusal) (bytes : List ℕ)
+    → r ≡ length_or x → bytes ≡ bytes_or other x
+    → result_map_both (λ n. take n bytes) (λ e. e) r
+    ≡ result_map_both (λ d. take d.len d.bytes) (λ e. e) x
 text_of (Ok d) other r bytes p q = λ i. result_map_both (λ n. take n (q i)) (λ e. e) (p i)
 text_of (Err e) other r bytes p q = ap (result_map_both (λ n. take n bytes) (λ e. e)) p
 
 module _ (session : ℕ) (line t : List ℕ) (short : length line ≤ spelled_limit) (is : Some t ≡ unspelled line) where
   here : checked session line ≡ and_then (read_request session t) (anew_text session)
-  here = cond-true _ _ _ (le-leb (length line) spelled_limit short) ∙ ap (read_spelled session) (sym is)
+  here =
+      cond-true _ _ _ (le-leb (length line) spelled_limit short)
+      ∙ ap (read_spelled session) (sym is)
 
-  pub checked-written : (q : Request) (out : List ℕ) (r : Result ℕ Refusal) (bytes : List ℕ) → out ≡ replicate request_limit 0 → Ok q ≡ read_request session t → Anew session q out r bytes → result_map_both (λ n. take n bytes) (λ e. e) r ≡ checked session line
+  pub checked-written :
+      (q : Request) (out : List ℕ) (r : Result ℕ Refusal) (bytes : List ℕ)
+      → out ≡ replicate request_limit 0 → Ok q ≡ read_request session t → Anew session q out r bytes
+      → result_map_both (λ n. take n bytes) (λ e. e) r ≡ checked session line
   checked-written q out r bytes zeros read written =
       text_of _ _ r bytes written.length written.text
       ∙ ap (λ o. result_map_both (λ d. take d.len d.bytes) (λ e. e) (anew session q o)) zeros

@@ -1,5 +1,6 @@
 -- Lines that stand for bytes, byte by byte, and that what is written stands for the same bytes.
-use Rattle.std.proofs.Common.{◌≡◌, ℕ, ◌+◌, ◌*◌, ◌/◌, ◌%◌, ◌<◌, true, false, ◌&&◌, eqb, List, [], ◌∷◌, ◌++◌, sym, refl, ap, ◌∙◌, arith}
+use Rattle.std.proofs.Common.{◌≡◌, ℕ, ◌+◌, ◌*◌, ◌/◌, ◌%◌, ◌<◌, true, false, ◌&&◌, eqb, List, []}
+use Rattle.std.proofs.Common.{◌∷◌, ◌++◌, sym, refl, ap, ◌∙◌, arith}
 use Rattle.std.specs.Option.{option_map}
 use Rattle.std.proofs.lemmas.Bool.{and_from, cond_both, cond-false, cond-true, eqb-true}
 use Rattle.tlcp.specs.Bytes.{inside, is_hex}
@@ -13,7 +14,10 @@ module _ (b : ℕ) (small : b < 256) (s : List ℕ) where
   abbrev Reads : List ℕ → Type 0
   Reads w = unspelled_from Nothing (w ++ s) ≡ option_map (λ t. b ∷ t) (unspelled_from Nothing s)
 
-  written : (x : ℕ) → eqb b x ≡ true → option_map (λ t. x ∷ t) (unspelled_from Nothing s) ≡ option_map (λ t. b ∷ t) (unspelled_from Nothing s)
+  written :
+      (x : ℕ) → eqb b x ≡ true
+      → option_map (λ t. x ∷ t) (unspelled_from Nothing s)
+      ≡ option_map (λ t. b ∷ t) (unspelled_from Nothing s)
   written x e = ap (λ y. option_map (λ t. y ∷ t) (unspelled_from Nothing s)) (sym (eqb-true b x e))
 
   plain : eqb b 92 ≡ false → Reads (b ∷ [])
@@ -36,4 +40,5 @@ module _ (b : ℕ) (small : b < 256) (s : List ℕ) where
 
 pub reads-spelled : ReadsSpelled
 reads-spelled [] h = refl
-reads-spelled (b ∷ t) h = reads_byte b h.0 (spelled t) ∙ ap (option_map (λ t. b ∷ t)) (reads-spelled t h.1)
+reads-spelled (b ∷ t) h =
+    reads_byte b h.0 (spelled t) ∙ ap (option_map (λ t. b ∷ t)) (reads-spelled t h.1)

@@ -7,7 +7,9 @@ use Rattle.requests.specs.Values.{session_name}
 use Rattle.requests.specs.declared.name.Name.{Name}
 use Rattle.requests.specs.declared.name.Name.TheVariants.{CreateSession, BindSession, Control}
 use Rattle.requests.specs.declared.name.Parameter.{Parameter}
-use Rattle.requests.specs.declared.name.Parameter.TheVariants.{Cid, User, Password, Session, RequestId, Operation, SubscriptionId, Group, Schema, Mode, Snapshot}
+use Rattle.requests.specs.declared.name.Parameter.TheVariants.{Cid, User, Password, Session}
+use Rattle.requests.specs.declared.name.Parameter.TheVariants.{RequestId, Operation, SubscriptionId}
+use Rattle.requests.specs.declared.name.Parameter.TheVariants.{Group, Schema, Mode, Snapshot}
 use Rattle.compose.specs.Composed.{composing, zeroed_or}
 use Rattle.compose.specs.Drafts.{Draft, bytes_or, length_or}
 use Rattle.compose.specs.Written.{Assignment, assign}

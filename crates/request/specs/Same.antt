@@ -13,7 +13,8 @@ shown (add r id g) = add r id g
 shown (delete r id) = delete r id
 shown (rebind r) = rebind r
 
--- what is shown of a request that was read is that request, written by the request writer, and is read as it again
+-- what is shown of a request that was read is that request, written by the request writer, and is
+-- read as it again
 abbrev pub ShowsSame : Type 0
 ShowsSame =
     (session : ℕ) (s : List ℕ) (q : Request) → read_request session s ≡ Ok q

@@ -1,5 +1,6 @@
 -- Requests on one line: a backslash and what stands behind it for a byte.
-use Rattle.std.specs.Prelude.{◌≡◌, ℕ, ◌+◌, ◌*◌, ◌/◌, ◌%◌, ◌<◌, cond, ◌&&◌, List, [], ◌∷◌, ◌++◌, Some, None, Option, ◌==◌}
+use Rattle.std.specs.Prelude.{◌≡◌, ℕ, ◌+◌, ◌*◌, ◌/◌, ◌%◌, ◌<◌, cond, ◌&&◌, List, [], ◌∷◌, ◌++◌}
+use Rattle.std.specs.Prelude.{Some, None, Option, ◌==◌}
 use Rattle.std.specs.Option.{option_map}
 use Rattle.std.specs.List.{AllByRecursion}
 use Rattle.tlcp.specs.Bytes.{inside, is_hex}
@@ -12,7 +13,10 @@ use Rattle.request.specs.declared.unspell.Step.TheVariants.{Byte, More}
 -- what a byte of a line does behind what has been read of one, if it is not out of place
 abbrev pub step_of : Behind → ℕ → Option Step
 step_of Nothing b = cond (b == 92) (Some (More Backslash)) (Some (Byte b))
-step_of Backslash b = cond (b == 114) (Some (Byte 13)) (cond (b == 110) (Some (Byte 10)) (cond (b == 92) (Some (Byte 92)) (cond (b == 120) (Some (More Hex)) None)))
+step_of Backslash b =
+    cond (b == 114) (Some (Byte 13))
+    (cond (b == 110) (Some (Byte 10))
+    (cond (b == 92) (Some (Byte 92)) (cond (b == 120) (Some (More Hex)) None)))
 step_of Hex b = Some (More (High b))
 step_of (High h) b = cond (is_hex h && is_hex b) (Some (Byte (16 * hex_value h + hex_value b))) None
 
@@ -41,7 +45,9 @@ unspelled = unspelled_from Nothing
 abbrev pub spelled_byte : ℕ → List ℕ
 spelled_byte b =
     let hex = 92 ∷ 120 ∷ hex_digit (b / 16) ∷ hex_digit (b % 16) ∷ [] in
-    cond (b == 13) (92 ∷ 114 ∷ []) (cond (b == 10) (92 ∷ 110 ∷ []) (cond (b == 92) (92 ∷ 92 ∷ []) (cond (inside 32 126 b) (b ∷ []) hex)))
+    cond (b == 13) (92 ∷ 114 ∷ [])
+    (cond (b == 10) (92 ∷ 110 ∷ [])
+    (cond (b == 92) (92 ∷ 92 ∷ []) (cond (inside 32 126 b) (b ∷ []) hex)))
 
 abbrev pub spelled : List ℕ → List ℕ
 spelled [] = []

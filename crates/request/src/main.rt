@@ -1,4 +1,5 @@
-//! Checks requests, one on each line of standard input, as the emulator would read them. Its argument
+//! Checks requests, one on each line of standard input, as the emulator would read them. Its
+//! argument
 //! is the session's number, 1 to 99999; without one it is 1.
 #![tactic(auto)]
 

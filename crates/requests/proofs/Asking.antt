@@ -1,9 +1,12 @@
 -- Requests: the reader of `specs/Requests` accepts exactly the bytes that ask for a request.
-use Rattle.std.proofs.Common.{◌≡◌, ℕ, suc, ◌+◌, ◌<◌, ◌≤◌, true, false, eqb, ltb, leb, List, [], ◌∷◌, ◌++◌, map, length, take, drop, is_some, Some, None, Ok, Option, sym, refl, ap, ◌∙◌, subst, arith}
+use Rattle.std.proofs.Common.{◌≡◌, ℕ, suc, ◌+◌, ◌<◌, ◌≤◌, true, false, eqb, ltb, leb, List, [], ◌∷◌}
+use Rattle.std.proofs.Common.{◌++◌, map, length, take, drop, is_some, Some, None, Ok, Option, sym}
+use Rattle.std.proofs.Common.{refl, ap, ◌∙◌, subst, arith}
 use Rattle.std.specs.List.{AllByRecursion}
 use Rattle.std.proofs.ByRecursion.{All-weaker}
 use Rattle.std.proofs.lemmas.List.{drop_at, drop-drop, length-append, take_at}
-use Rattle.std.proofs.lemmas.Bool.{and_from, and_left, and_right, both_ways, cond_both, cond-true, cond-false, leb-true, le-leb, ltb-true, lt-ltb, or_parts}
+use Rattle.std.proofs.lemmas.Bool.{and_from, and_left, and_right, both_ways, cond_both, cond-true}
+use Rattle.std.proofs.lemmas.Bool.{cond-false, leb-true, le-leb, ltb-true, lt-ltb, or_parts}
 use Rattle.std.proofs.lemmas.Bool.Decides.{nat_tests}
 use Rattle.std.proofs.lemmas.Grind.{common_steps}
 use Rattle.tlcp.specs.Lines.{and_then}
@@ -13,14 +16,17 @@ use Rattle.tlcp.proofs.Words.{first_word}
 use Rattle.requests.specs.Asked.{Asks, Given, ReadsAsked, Readable, found, spelling}
 use Rattle.requests.specs.Limits.{request_limit}
 use Rattle.requests.specs.Names.{is_in, name_of, names, name_word, needs, parameters_of, takes}
-use Rattle.requests.specs.Requests.{Occurrences, Request, no_occurrences, read_body, read_named, read_pairs, read_request}
+use Rattle.requests.specs.Requests.{Occurrences, Request, no_occurrences, read_body, read_named}
+use Rattle.requests.specs.Requests.{read_pairs, read_request}
 use Rattle.requests.specs.declared.name.Name.{Name}
 use Rattle.requests.specs.declared.name.Name.TheVariants.{CreateSession, BindSession, Control}
 use Rattle.requests.specs.declared.name.Form.{Form}
 use Rattle.requests.specs.declared.name.Form.TheVariants.{Create, Bind, Add, Delete, ForceRebind}
 use Rattle.requests.specs.declared.name.Parameter.{Parameter}
-use Rattle.requests.proofs.Forming.{Meets, found-only, named-read, only-found, read_named_lem, takes-in}
-use Rattle.requests.proofs.Pairing.{Listed, all_read, none_has, ok-where, read_all, refused, then_ok}
+use Rattle.requests.proofs.Forming.{Meets, found-only, named-read, only-found, read_named_lem}
+use Rattle.requests.proofs.Forming.{takes-in}
+use Rattle.requests.proofs.Pairing.{Listed, all_read, none_has, ok-where, read_all, refused}
+use Rattle.requests.proofs.Pairing.{then_ok}
 
 -- a line cut at its first CR LF
 ends_with : (b : ℕ) (s : List ℕ) → ends_here (b ∷ s) ≡ true → b ∷ s ≡ 13 ∷ 10 ∷ drop 2 (b ∷ s)

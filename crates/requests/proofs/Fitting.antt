@@ -1,7 +1,11 @@
--- The values that a parameter takes: the tests of `specs/Values` against the words of `specs/Asked`.
-use Rattle.std.proofs.Common.{◌≡◌, ℕ, ◌≤◌, Bool, true, false, ◌&&◌, eqb, leb, List, [], ◌∷◌, length, is_some, Some, None, codes, Decides, Option, refl, ap, subst, arith, lit<}
+-- The values that a parameter takes: the tests of `specs/Values` against the words of
+-- `specs/Asked`.
+use Rattle.std.proofs.Common.{◌≡◌, ℕ, ◌≤◌, Bool, true, false, ◌&&◌, eqb, leb, List, [], ◌∷◌, length}
+use Rattle.std.proofs.Common.{is_some, Some, None, codes, Decides, Option, refl, ap, subst, arith}
+use Rattle.std.proofs.Common.{lit<}
 use Rattle.std.specs.List.{AllByRecursion}
-use Rattle.std.proofs.lemmas.Bool.{and_from, both_ways, eq-eqb, leb-true, le-leb, not-true, not_from_false}
+use Rattle.std.proofs.lemmas.Bool.{and_from, both_ways, eq-eqb, leb-true, le-leb, not-true}
+use Rattle.std.proofs.lemmas.Bool.{not_from_false}
 use Rattle.std.proofs.lemmas.Bool.Decides.{Decides-and, Decides-eqb, Decides-like}
 use Rattle.std.proofs.ByRecursion.{Decides-by_and}
 use Rattle.row.specs.Texts.{every}
@@ -15,7 +19,9 @@ use Rattle.requests.specs.Asked.{Numeral, Right}
 use Rattle.requests.specs.Limits.{request_id_limit}
 use Rattle.requests.specs.Values.{fitting, is_group, is_numeral, session_name}
 use Rattle.requests.specs.declared.name.Parameter.{Parameter}
-use Rattle.requests.specs.declared.name.Parameter.TheVariants.{Cid, User, Password, Session, RequestId, Operation, SubscriptionId, Group, Schema, Mode, Snapshot}
+use Rattle.requests.specs.declared.name.Parameter.TheVariants.{Cid, User, Password, Session}
+use Rattle.requests.specs.declared.name.Parameter.TheVariants.{RequestId, Operation, SubscriptionId}
+use Rattle.requests.specs.declared.name.Parameter.TheVariants.{Group, Schema, Mode, Snapshot}
 
 pub some_is : {X : Type 0} (o : Option X) → is_some o ≡ true → (x : X) × (o ≡ Some x)
 some_is None e = absurd (both_ways false refl e)
@@ -31,12 +37,17 @@ decides-same s t = (same_bytes_lem s t, λ e. subst (λ u. same_bytes s u ≡ tr
 pub decides-leb : (a b : ℕ) → Decides (leb a b) (a ≤ b)
 decides-leb a b = (leb-true a b, le-leb a b)
 
-pub decides-every : (p : ℕ → Bool) (s : List ℕ) → Decides (every p s) (AllByRecursion (λ b. p b ≡ true) s)
-decides-every p = Decides-by_and p (λ b. p b ≡ true) (every p) (λ b. (λ e. e, λ e. e)) refl (λ _ _. refl)
+pub decides-every :
+    (p : ℕ → Bool) (s : List ℕ) → Decides (every p s) (AllByRecursion (λ b. p b ≡ true) s)
+decides-every p =
+    Decides-by_and p (λ b. p b ≡ true) (every p) (λ b. (λ e. e, λ e. e)) refl (λ _ _. refl)
 
 -- three tests are one, of all that they decide
-decides-three : {P Q R : Type 0} {x y z : Bool} → Decides x P → Decides y Q → Decides z R → Decides (x && (y && z)) (P × Q × R)
-decides-three {x = x} {y = y} {z = z} p q r = Decides-like _ (λ h. (h.0, h.1.0, h.1.1)) (λ h. (h.0, (h.1, h.2))) (Decides-and x (y && z) p (Decides-and y z q r))
+decides-three :
+    {P Q R : Type 0} {x y z : Bool} → Decides x P → Decides y Q → Decides z R
+    → Decides (x && (y && z)) (P × Q × R)
+decides-three {x =
+    x} {y = y} {z = z} p q r = Decides-like _ (λ h. (h.0, h.1.0, h.1.1)) (λ h. (h.0, (h.1, h.2))) (Decides-and x (y && z) p (Decides-and y z q r))
 
 decides-id : (t : List ℕ) → Decides (is_some (read_number 1 id_limit t)) (Right 0 SubscriptionId t)
 decides-id t = (
@@ -70,12 +81,14 @@ decides-group (b ∷ ds) =
     (decides-three (decides-leb 1 (length (b ∷ ds))) (Decides-eqb b 116) (decides-numeral ds))
 
 -- a value passes the test of its parameter exactly where it is right
-pub decides-right : (session : ℕ) (p : Parameter) (t : List ℕ) → Decides (fitting session p t) (Right session p t)
+pub decides-right :
+    (session : ℕ) (p : Parameter) (t : List ℕ) → Decides (fitting session p t) (Right session p t)
 decides-right session Cid t = (λ _. tt, λ _. refl)
 decides-right session User t = (λ _. tt, λ _. refl)
 decides-right session Password t = (λ _. tt, λ _. refl)
 decides-right session Session t = decides-same t (session_name session)
-decides-right session RequestId t = decides-three (decides-leb 1 (length t)) (decides-leb (length t) request_id_limit) (decides-every is_alphanumeric t)
+decides-right session RequestId t =
+    decides-three (decides-leb 1 (length t)) (decides-leb (length t) request_id_limit) (decides-every is_alphanumeric t)
 decides-right session Operation t = (λ _. tt, λ _. refl)
 decides-right session SubscriptionId t = decides-id t
 decides-right session Group t = decides-group t

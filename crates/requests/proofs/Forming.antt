@@ -1,14 +1,21 @@
 -- What pairs ask for: the reader of `specs/Requests` against the forms of `specs/Asked`.
-use Rattle.std.proofs.Common.{◌≡◌, ℕ, true, false, not, eqb, List, [], ◌∷◌, is_some, Some, None, Ok, codes, Option, unwrap_or, sym, refl, ap, ◌∙◌, subst, ⊎_elim, arith}
+use Rattle.std.proofs.Common.{◌≡◌, ℕ, true, false, not, eqb, List, [], ◌∷◌, is_some, Some, None, Ok}
+use Rattle.std.proofs.Common.{codes, Option, unwrap_or, sym, refl, ap, ◌∙◌, subst, ⊎_elim, arith}
 use Rattle.std.specs.Option.{option_map}
 use Rattle.std.specs.List.{AllByRecursion}
-use Rattle.std.proofs.lemmas.Bool.{cases_Bool, cond_both, cond-true, cond-false, both_ways, eq-eqb, not-false, not_from_true, or_cases, or_from, or_parts}
+use Rattle.std.proofs.lemmas.Bool.{cases_Bool, cond_both, cond-true, cond-false, both_ways, eq-eqb}
+use Rattle.std.proofs.lemmas.Bool.{not-false, not_from_true, or_cases, or_from, or_parts}
 use Rattle.tlcp.specs.Lines.{and_then}
 use Rattle.tlcp.specs.Lines.{same_bytes}
 use Rattle.tlcp.proofs.Words.{same_bytes_lem}
-use Rattle.requests.specs.Asked.{Formed, Given, Right, adds, binds, creates, deletes, found, rebinds}
-use Rattle.requests.specs.Names.{first_needs, index_of, is_in, needs, operation_of, parameters_of, takes}
-use Rattle.requests.specs.Requests.{Occurrences, Request, check_values, fitting_or, form_of, form_or, is_given, lacks, leftmost, occurrence_of, parameters, read_form, read_named, request_of, given_text, unfit, unfit_of, value_at_of, value_of}
+use Rattle.requests.specs.Asked.{Formed, Given, Right, adds, binds, creates, deletes, found}
+use Rattle.requests.specs.Asked.{rebinds}
+use Rattle.requests.specs.Names.{first_needs, index_of, is_in, needs, operation_of, parameters_of}
+use Rattle.requests.specs.Names.{takes}
+use Rattle.requests.specs.Requests.{Occurrences, Request, check_values, fitting_or, form_of}
+use Rattle.requests.specs.Requests.{form_or, is_given, lacks, leftmost, occurrence_of, parameters}
+use Rattle.requests.specs.Requests.{read_form, read_named, request_of, given_text, unfit, unfit_of}
+use Rattle.requests.specs.Requests.{value_at_of, value_of}
 use Rattle.requests.specs.Values.{fitting}
 use Rattle.requests.specs.declared.name.Name.{Name}
 use Rattle.requests.specs.declared.name.Name.TheVariants.{CreateSession, BindSession, Control}
@@ -17,7 +24,8 @@ use Rattle.requests.specs.declared.name.Form.TheVariants.{Create, Bind, Add, Del
 use Rattle.requests.specs.declared.name.Parameter.{Parameter}
 use Rattle.requests.specs.declared.name.Parameter.TheVariants.{Operation}
 use Rattle.requests.proofs.Fitting.{decides-right, some_is}
-use Rattle.requests.proofs.Pairing.{each, given-text, none-parts, ok-unless, ok-where, refused, same_index, then_ok}
+use Rattle.requests.proofs.Pairing.{each, given-text, none-parts, ok-unless, ok-where, refused}
+use Rattle.requests.proofs.Pairing.{same_index, then_ok}
 
 -- the parameters of a form
 in_all : (xs ys : List Parameter) → AllByRecursion (λ q. is_in q ys ≡ true) xs → (p : Parameter)

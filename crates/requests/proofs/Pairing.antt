@@ -1,11 +1,15 @@
 -- Pairs: the reader of `specs/Requests` against the pairs of `specs/Asked`.
-use Rattle.std.proofs.Common.{◌≡◌, ℕ, ◌+◌, ◌<◌, ◌≤◌, Bool, true, false, cond, eqb, leb, List, [], ◌∷◌, ◌++◌, map, length, get_or, take, drop, is_some, Some, None, Ok, Err, Option, Result, sym, refl, ap, ◌∙◌, subst, ⊎_elim, arith}
+use Rattle.std.proofs.Common.{◌≡◌, ℕ, ◌+◌, ◌<◌, ◌≤◌, Bool, true, false, cond, eqb, leb, List, []}
+use Rattle.std.proofs.Common.{◌∷◌, ◌++◌, map, length, get_or, take, drop, is_some, Some, None, Ok}
+use Rattle.std.proofs.Common.{Err, Option, Result, sym, refl, ap, ◌∙◌, subst, ⊎_elim, arith}
 use Rattle.std.specs.Option.{option_map}
 use Rattle.std.specs.List.{AllByRecursion, position_or_len}
 use Rattle.std.proofs.ByRecursion.{All-get_or}
-use Rattle.std.proofs.lemmas.List.{length-append, length-set, get_or-replicate, take_at, drop_at, drop-drop}
+use Rattle.std.proofs.lemmas.List.{length-append, length-set, get_or-replicate, take_at, drop_at}
+use Rattle.std.proofs.lemmas.List.{drop-drop}
 use Rattle.std.proofs.lemmas.List.Sums.{passes_at_first, split_at_first}
-use Rattle.std.proofs.lemmas.Bool.{cases_Bool, cond-true, cond-false, both_ways, or_from, or_left, or_right, eqb-true, eqb-false, eq-eqb, ne_eqb, lt-ltb}
+use Rattle.std.proofs.lemmas.Bool.{cases_Bool, cond-true, cond-false, both_ways, or_from, or_left}
+use Rattle.std.proofs.lemmas.Bool.{or_right, eqb-true, eqb-false, eq-eqb, ne_eqb, lt-ltb}
 use Rattle.std.proofs.lemmas.Bool.Decides.{nat_tests}
 use Rattle.std.proofs.lemmas.Grind.{common_steps}
 use Rattle.tlcp.specs.Lines.{and_then}
@@ -23,13 +27,18 @@ use Rattle.tlcp.proofs.Places.{place-is}
 use Rattle.tlcp.proofs.Unescaped.{reads-escapes}
 use Rattle.requests.specs.Asked.{Apart, Given, Readable, found, spelling}
 use Rattle.requests.specs.Limits.{value_limit}
-use Rattle.requests.specs.Names.{index_of, is_in, parameter_count, parameter_of, parameters_of, parameter_word}
-use Rattle.requests.specs.Requests.{Occurrence, Occurrences, add_occurrence, is_given, no_occurrences, occurrence_of, parameters, read_divided, read_known, read_pair, read_pairs, given_text}
+use Rattle.requests.specs.Names.{index_of, is_in, parameter_count, parameter_of, parameters_of}
+use Rattle.requests.specs.Names.{parameter_word}
+use Rattle.requests.specs.Requests.{Occurrence, Occurrences, add_occurrence, is_given}
+use Rattle.requests.specs.Requests.{no_occurrences, occurrence_of, parameters, read_divided}
+use Rattle.requests.specs.Requests.{read_known, read_pair, read_pairs, given_text}
 use Rattle.tlcp.specs.Bytes.{is_plain}
 use Rattle.requests.specs.Values.{plain_or, read_value}
 use Rattle.requests.specs.declared.name.Name.{Name}
 use Rattle.requests.specs.declared.name.Parameter.{Parameter}
-use Rattle.requests.specs.declared.name.Parameter.TheVariants.{Cid, User, Password, Session, RequestId, Operation, SubscriptionId, Group, Schema, Mode, Snapshot}
+use Rattle.requests.specs.declared.name.Parameter.TheVariants.{Cid, User, Password, Session}
+use Rattle.requests.specs.declared.name.Parameter.TheVariants.{RequestId, Operation, SubscriptionId}
+use Rattle.requests.specs.declared.name.Parameter.TheVariants.{Group, Schema, Mode, Snapshot}
 use Rattle.requests.proofs.Fitting.{decides-every, decides-leb, same_self}
 
 -- what is refused is no result
@@ -57,7 +66,8 @@ pub ok-unless : {X : Type 0} (t : Bool) (r : Result X Refusal) (f : Refusal) (x 
 ok-unless true r f x e = refused e
 ok-unless false r f x e = (refl, e)
 
--- each parameter stands at its index among all, is the first with its word, and has neither `=` nor `&` in that
+-- each parameter stands at its index among all, is the first with its word, and has neither `=` nor
+-- `&` in that
 record Known (p : Parameter) : Type 0 where
   index : get_or parameters (index_of p) Cid ≡ p
   small : index_of p < parameter_count
@@ -68,15 +78,20 @@ record Known (p : Parameter) : Type 0 where
 known : (p : Parameter) → Known p
 known Cid = record { index = refl; small = omega arith; word = refl; equals = refl; and = refl }
 known User = record { index = refl; small = omega arith; word = refl; equals = refl; and = refl }
-known Password = record { index = refl; small = omega arith; word = refl; equals = refl; and = refl }
+known Password =
+    record { index = refl; small = omega arith; word = refl; equals = refl; and = refl }
 known Session = record { index = refl; small = omega arith; word = refl; equals = refl; and = refl }
-known RequestId = record { index = refl; small = omega arith; word = refl; equals = refl; and = refl }
-known Operation = record { index = refl; small = omega arith; word = refl; equals = refl; and = refl }
-known SubscriptionId = record { index = refl; small = omega arith; word = refl; equals = refl; and = refl }
+known RequestId =
+    record { index = refl; small = omega arith; word = refl; equals = refl; and = refl }
+known Operation =
+    record { index = refl; small = omega arith; word = refl; equals = refl; and = refl }
+known SubscriptionId =
+    record { index = refl; small = omega arith; word = refl; equals = refl; and = refl }
 known Group = record { index = refl; small = omega arith; word = refl; equals = refl; and = refl }
 known Schema = record { index = refl; small = omega arith; word = refl; equals = refl; and = refl }
 known Mode = record { index = refl; small = omega arith; word = refl; equals = refl; and = refl }
-known Snapshot = record { index = refl; small = omega arith; word = refl; equals = refl; and = refl }
+known Snapshot =
+    record { index = refl; small = omega arith; word = refl; equals = refl; and = refl }
 
 pub index-small : (p : Parameter) → index_of p < parameter_count
 index-small p = (known p).small
@@ -373,7 +388,8 @@ all-texts : (gs : List Given) (qs : Occurrences)
 all-texts gs qs texts = λ i p.
     (texts p ∙ ap (or_else (found gs p)) (nothing-given p) ∙ else-none (found gs p)) i
 
--- texts are read as pairs exactly where they spell pairs that are listed, each parameter once, and their values are then found
+-- texts are read as pairs exactly where they spell pairs that are listed, each parameter once, and
+-- their values are then found
 pub all_read : (n : Name) (at : ℕ) (ss : List (List ℕ)) (qs : Occurrences)
     → read_pairs n at ss no_occurrences ≡ Ok qs
     → (gs : List Given) × (map spelling gs ≡ ss) × AllByRecursion (Listed n) gs × Apart gs

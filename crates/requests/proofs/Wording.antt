@@ -2,7 +2,8 @@
 use Rattle.std.proofs.Common.{◌≡◌, ℕ, List, Some, refl, ap, ◌∙◌}
 use Rattle.tlcp.specs.Dividing.{first_with}
 use Rattle.tlcp.proofs.Words.{first_word}
-use Rattle.requests.specs.Names.{form_word, name_word, names, operations, parameter_word, parameters_of}
+use Rattle.requests.specs.Names.{form_word, name_word, names, operations, parameter_word}
+use Rattle.requests.specs.Names.{parameters_of}
 use Rattle.requests.specs.Words.{Words}
 use Rattle.requests.specs.declared.name.Name.TheVariants.{CreateSession, BindSession, Control}
 use Rattle.requests.proofs.Fitting.{decides-same}

@@ -1,5 +1,7 @@
--- Which bytes are which request, in the words of the protocol: a name, CR LF, and pairs of parameters and values.
-use Rattle.std.specs.Prelude.{◌≡◌, ℕ, ◌≤◌, true, false, cond, List, [], ◌∷◌, ◌++◌, map, length, is_some, Some, None, Ok, codes, decimal, Option, ◌==◌, nat_eq}
+-- Which bytes are which request, in the words of the protocol: a name, CR LF, and pairs of
+-- parameters and values.
+use Rattle.std.specs.Prelude.{◌≡◌, ℕ, ◌≤◌, true, false, cond, List, [], ◌∷◌, ◌++◌, map, length}
+use Rattle.std.specs.Prelude.{is_some, Some, None, Ok, codes, decimal, Option, ◌==◌, nat_eq}
 use Rattle.std.specs.Option.{unwrap_or}
 use Rattle.std.specs.List.{AllByRecursion}
 use Rattle.tlcp.specs.Bytes.{is_alphanumeric, is_digit, is_plain}
@@ -15,7 +17,9 @@ use Rattle.requests.specs.declared.name.Name.TheVariants.{CreateSession, BindSes
 use Rattle.requests.specs.declared.name.Form.{Form}
 use Rattle.requests.specs.declared.name.Form.TheVariants.{Create, Bind, Add, Delete, ForceRebind}
 use Rattle.requests.specs.declared.name.Parameter.{Parameter}
-use Rattle.requests.specs.declared.name.Parameter.TheVariants.{Cid, User, Password, Session, RequestId, Operation, SubscriptionId, Group, Schema, Mode, Snapshot}
+use Rattle.requests.specs.declared.name.Parameter.TheVariants.{Cid, User, Password, Session}
+use Rattle.requests.specs.declared.name.Parameter.TheVariants.{RequestId, Operation, SubscriptionId}
+use Rattle.requests.specs.declared.name.Parameter.TheVariants.{Group, Schema, Mode, Snapshot}
 
 -- a pair: a parameter, the bytes of its value, and the value that they stand for
 pub record Given : Type 0 where
@@ -73,7 +77,8 @@ Right session Schema t = t ≡ codes "all"
 Right session Mode t = t ≡ codes "MERGE"
 Right session Snapshot t = t ≡ codes "true"
 
--- bytes ask for q: a name, CR LF, and pairs in any order, joined by `&`, with just the parameters of the request's form
+-- bytes ask for q: a name, CR LF, and pairs in any order, joined by `&`, with just the parameters
+-- of the request's form
 pub record Asks (session : ℕ) (s : List ℕ) (q : Request) : Type 0 where
   pub name : Name
   pub form : Form

@@ -5,7 +5,9 @@ use Rattle.tlcp.specs.Dividing.{first_with}
 use Rattle.requests.specs.declared.name.Name.{Name}
 use Rattle.requests.specs.declared.name.Name.TheVariants.{CreateSession, BindSession, Control}
 use Rattle.requests.specs.declared.name.Parameter.{Parameter}
-use Rattle.requests.specs.declared.name.Parameter.TheVariants.{Cid, User, Password, Session, RequestId, Operation, SubscriptionId, Group, Schema, Mode, Snapshot}
+use Rattle.requests.specs.declared.name.Parameter.TheVariants.{Cid, User, Password, Session}
+use Rattle.requests.specs.declared.name.Parameter.TheVariants.{RequestId, Operation, SubscriptionId}
+use Rattle.requests.specs.declared.name.Parameter.TheVariants.{Group, Schema, Mode, Snapshot}
 use Rattle.requests.specs.declared.name.Form.{Form}
 use Rattle.requests.specs.declared.name.Form.TheVariants.{Create, Bind, Add, Delete, ForceRebind}
 
@@ -48,7 +50,8 @@ parameter_count = 11
 abbrev pub parameters_of : Name → List Parameter
 parameters_of CreateSession = Cid ∷ User ∷ Password ∷ []
 parameters_of BindSession = Session ∷ []
-parameters_of Control = RequestId ∷ Operation ∷ SubscriptionId ∷ Group ∷ Schema ∷ Mode ∷ Snapshot ∷ []
+parameters_of Control =
+    RequestId ∷ Operation ∷ SubscriptionId ∷ Group ∷ Schema ∷ Mode ∷ Snapshot ∷ []
 
 abbrev pub is_in : Parameter → List Parameter → Bool
 is_in p qs = list_any (λ q. index_of p == index_of q) qs
@@ -68,7 +71,8 @@ first_needs CreateSession = Cid ∷ []
 first_needs BindSession = Session ∷ []
 first_needs Control = RequestId ∷ Operation ∷ []
 
--- the word by which a request asks for a form: its operation's, or its name's where that has one form only
+-- the word by which a request asks for a form: its operation's, or its name's where that has one
+-- form only
 abbrev pub form_word : Form → List ℕ
 form_word Create = name_word CreateSession
 form_word Bind = name_word BindSession

@@ -1,5 +1,7 @@
 -- Requests: which bytes are taken for which request, or refused, and where.
-use Rattle.std.specs.Prelude.{ℕ, ◌+◌, min, Bool, cond, not, List, [], ◌∷◌, length, take, drop, replicate, is_some, Some, None, Ok, Err, Option, Result, nat_le, nat_lt, slice_index_or, slice_set}
+use Rattle.std.specs.Prelude.{ℕ, ◌+◌, min, Bool, cond, not, List, [], ◌∷◌, length, take, drop}
+use Rattle.std.specs.Prelude.{replicate, is_some, Some, None, Ok, Err, Option, Result, nat_le}
+use Rattle.std.specs.Prelude.{nat_lt, slice_index_or, slice_set}
 use Rattle.std.specs.List.{list_any}
 use Rattle.std.specs.Option.{option_map, unwrap_or}
 use Rattle.row.specs.Faults.{refusal}
@@ -12,14 +14,17 @@ use Rattle.tlcp.specs.Numbers.{read_number}
 use Rattle.tlcp.specs.Parts.{before, behind, place_of}
 use Rattle.tlcp.specs.Dividing.{divided_by, crlf_at}
 use Rattle.requests.specs.Limits.{request_limit}
-use Rattle.requests.specs.Names.{index_of, parameter_count, parameter_of, name_of, first_needs, operation_of, needs, takes, is_in}
+use Rattle.requests.specs.Names.{index_of, parameter_count, parameter_of, name_of, first_needs}
+use Rattle.requests.specs.Names.{operation_of, needs, takes, is_in}
 use Rattle.requests.specs.Values.{read_value, fitting, fault_of}
 use Rattle.requests.specs.declared.name.Name.{Name}
 use Rattle.requests.specs.declared.name.Name.TheVariants.{CreateSession, BindSession, Control}
 use Rattle.requests.specs.declared.name.Form.{Form}
 use Rattle.requests.specs.declared.name.Form.TheVariants.{Create, Bind, Add, Delete, ForceRebind}
 use Rattle.requests.specs.declared.name.Parameter.{Parameter}
-use Rattle.requests.specs.declared.name.Parameter.TheVariants.{Cid, User, Password, Session, RequestId, Operation, SubscriptionId, Group, Schema, Mode, Snapshot}
+use Rattle.requests.specs.declared.name.Parameter.TheVariants.{Cid, User, Password, Session}
+use Rattle.requests.specs.declared.name.Parameter.TheVariants.{RequestId, Operation, SubscriptionId}
+use Rattle.requests.specs.declared.name.Parameter.TheVariants.{Group, Schema, Mode, Snapshot}
 
 -- a request, with its values decoded
 pub data Request : Type 0 where
@@ -100,7 +105,9 @@ form_of BindSession ps = Ok Bind
 form_of Control ps = form_or (value_at_of Operation ps) (operation_of (value_of Operation ps))
 
 abbrev pub parameters : List Parameter
-parameters = Cid ∷ User ∷ Password ∷ Session ∷ RequestId ∷ Operation ∷ SubscriptionId ∷ Group ∷ Schema ∷ Mode ∷ Snapshot ∷ []
+parameters =
+    Cid ∷ User ∷ Password ∷ Session ∷ RequestId ∷ Operation ∷ SubscriptionId ∷ Group ∷ Schema ∷ Mode
+    ∷ Snapshot ∷ []
 
 abbrev pub leftmost : Option ℕ → Option ℕ → Option ℕ
 leftmost None o = o

@@ -1,5 +1,7 @@
 -- The values of parameters: which bytes may stand for one, and which values each parameter takes.
-use Rattle.std.specs.Prelude.{ℕ, ◌+◌, Bool, true, cond, not, ◌&&◌, List, ◌∷◌, length, drop, is_some, Some, None, Ok, Err, codes, decimal, Option, Result, ◌==◌, nat_le, slice_index}
+use Rattle.std.specs.Prelude.{ℕ, ◌+◌, Bool, true, cond, not, ◌&&◌, List, ◌∷◌, length, drop, is_some}
+use Rattle.std.specs.Prelude.{Some, None, Ok, Err, codes, decimal, Option, Result, ◌==◌, nat_le}
+use Rattle.std.specs.Prelude.{slice_index}
 use Rattle.row.specs.Faults.{refusal}
 use Rattle.row.specs.Texts.{every}
 use Rattle.row.specs.declared.fault.Fault.{Fault}
@@ -12,11 +14,15 @@ use Rattle.tlcp.specs.Numbers.{read_number}
 use Rattle.tlcp.specs.Lines.{same_bytes}
 use Rattle.requests.specs.Limits.{value_limit, request_id_limit}
 use Rattle.requests.specs.declared.name.Parameter.{Parameter}
-use Rattle.requests.specs.declared.name.Parameter.TheVariants.{Cid, User, Password, Session, RequestId, Operation, SubscriptionId, Group, Schema, Mode, Snapshot}
+use Rattle.requests.specs.declared.name.Parameter.TheVariants.{Cid, User, Password, Session}
+use Rattle.requests.specs.declared.name.Parameter.TheVariants.{RequestId, Operation, SubscriptionId}
+use Rattle.requests.specs.declared.name.Parameter.TheVariants.{Group, Schema, Mode, Snapshot}
 
 abbrev pub plain_or : ℕ → List ℕ → List ℕ → Option ℕ → Result (List ℕ) Refusal
 plain_or at raw t (Some n) = Err (refusal Escape (at + n))
-plain_or at raw t None = cond (every is_plain raw) (cond (nat_le (length t) value_limit) (Ok t) (Err (refusal Length 0))) (Err (refusal Value at))
+plain_or at raw t None =
+    cond (every is_plain raw) (cond (nat_le (length t) value_limit) (Ok t) (Err (refusal Length 0)))
+    (Err (refusal Value at))
 
 -- the value that stands from the place `at` on
 abbrev pub read_value : ℕ → List ℕ → Result (List ℕ) Refusal
@@ -30,7 +36,8 @@ abbrev pub is_group : List ℕ → Bool
 is_group t = nat_le 1 (length t) && (slice_index t 0 == 116 && is_numeral (drop 1 t))
 
 abbrev pub is_request_id : List ℕ → Bool
-is_request_id t = nat_le 1 (length t) && (nat_le (length t) request_id_limit && every is_alphanumeric t)
+is_request_id t =
+    nat_le 1 (length t) && (nat_le (length t) request_id_limit && every is_alphanumeric t)
 
 -- the name of the session with this number
 abbrev pub session_name : ℕ → List ℕ

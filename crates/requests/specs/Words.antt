@@ -4,7 +4,9 @@ use Rattle.requests.specs.Names.{name_of, needs, operation_of, parameter_of, par
 use Rattle.requests.specs.Values.{fitting}
 use Rattle.requests.specs.declared.name.Form.TheVariants.{Create, Bind, Add, Delete, ForceRebind}
 use Rattle.requests.specs.declared.name.Name.TheVariants.{CreateSession, BindSession, Control}
-use Rattle.requests.specs.declared.name.Parameter.TheVariants.{Cid, User, Password, Session, RequestId, Operation, SubscriptionId, Group, Schema, Mode, Snapshot}
+use Rattle.requests.specs.declared.name.Parameter.TheVariants.{Cid, User, Password, Session}
+use Rattle.requests.specs.declared.name.Parameter.TheVariants.{RequestId, Operation, SubscriptionId}
+use Rattle.requests.specs.declared.name.Parameter.TheVariants.{Group, Schema, Mode, Snapshot}
 
 -- create_session
 abbrev pub create_session_bytes : List ℕ

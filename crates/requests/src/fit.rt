@@ -1,7 +1,8 @@
 //! The values that parameters take.
 ghost use Rattle.std.specs.Prelude.{◌≡◌};
 ghost use Rattle.row.specs.Texts.{every};
-ghost use Rattle.requests.specs.Values.{fault_of, fitting, is_group, is_numeral, is_request_id, session_name};
+ghost use Rattle.requests.specs.Values.{fault_of, fitting, is_group, is_numeral, is_request_id};
+ghost use Rattle.requests.specs.Values.{session_name};
 ghost use Rattle.tlcp.specs.Lines.{same_bytes};
 
 use crate::name::Parameter;

@@ -1,6 +1,8 @@
 //! The names of requests and of their parameters.
 ghost use Rattle.std.specs.Prelude.{◌≡◌, ◌<◌};
-ghost use Rattle.requests.specs.Names.{name_word, parameter_word, form_word, index_of, parameter_count, parameters_of, name_of, parameter_of, first_needs, operation_of, needs, takes, is_in};
+ghost use Rattle.requests.specs.Names.{name_word, parameter_word, form_word, index_of};
+ghost use Rattle.requests.specs.Names.{parameter_count, parameters_of, name_of, parameter_of};
+ghost use Rattle.requests.specs.Names.{first_needs, operation_of, needs, takes, is_in};
 
 use tlcp::{Worded, first_with};
 

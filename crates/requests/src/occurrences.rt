@@ -4,7 +4,8 @@ ghost use Rattle.std.specs.Option.{option_map};
 ghost use Rattle.std.specs.Result.{result_map_both};
 ghost use Rattle.requests.specs.Read.{occurrence_in, occurrences_in, word_text};
 ghost use Rattle.tlcp.specs.Dividing.{divided_by};
-ghost use Rattle.requests.specs.Requests.{no_occurrences, occurrence_of, read_pair, read_pairs, given_text, is_given, lacks, unfit_of, unfit, parameters};
+ghost use Rattle.requests.specs.Requests.{no_occurrences, occurrence_of, read_pair, read_pairs};
+ghost use Rattle.requests.specs.Requests.{given_text, is_given, lacks, unfit_of, unfit, parameters};
 
 use crate::name::{Name, PARAMETER_COUNT, Parameter, is_in};
 use crate::request::Part;
@@ -47,7 +48,8 @@ impl Occurrences {
     };
 
     pub(crate) fn get(&self, parameter: Parameter) -> Option<Occurrence>
-        ensures { option_map occurrence_in result ≡ occurrence_of parameter (occurrences_in self.now) }
+        ensures { option_map occurrence_in result
+            ≡ occurrence_of parameter (occurrences_in self.now) }
     {
         self.slots[parameter.index()]
     }

@@ -26,7 +26,8 @@ pub(crate) struct Whole<'a> {
 impl Whole<'_> {
     // Checks the values that the form needs, in their order.
     fn check(&self, session: u32) -> Result<(), Refusal>
-        ensures { result ≡ check_values session (needs self.now.form) (occurrences_in self.now.pairs.now) }
+        ensures { result
+            ≡ check_values session (needs self.now.form) (occurrences_in self.now.pairs.now) }
     {
         for p in self.form.needs() {
             let pair = self.pairs.given(*p);

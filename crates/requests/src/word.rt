@@ -15,7 +15,8 @@ pub const VALUE_LIMIT: usize = 64;
 pub type Word = Bounded<VALUE_LIMIT>;
 
 pub(crate) fn read_value(raw: Part<'_>) -> Result<Word, Refusal>
-    ensures { result_map_both word_text (λ e. e) result ≡ read_value raw.entry.at raw.entry.bytes.now }
+    ensures { result_map_both word_text (λ e. e) result
+        ≡ read_value raw.entry.at raw.entry.bytes.now }
 {
     let word = Word::decoded(raw.bytes).map_err(|refusal| refusal.moved_by(raw.at))?;
     if !all_of(raw.bytes, Class::Plain) {

@@ -2,7 +2,9 @@
 use Rattle.std.specs.Prelude.{ℕ, ◌+◌, ◌-◌, ◌^◌, List, ◌∷◌, ◌++◌, Ok, Err, Result, decimal, min}
 use Rattle.row.specs.declared.fault.Fault.{Fault}
 use Rattle.row.specs.declared.fault.Refusal.{Refusal}
-use Rattle.row.specs.declared.fault.Fault.TheVariants.{Memory, Shape, Escape, Number, Unknown, Parts, Cover, Value, State, Absent, Order, Subscribed, Full, Wire, Nothing, Length}
+use Rattle.row.specs.declared.fault.Fault.TheVariants.{Memory, Shape, Escape, Number, Unknown}
+use Rattle.row.specs.declared.fault.Fault.TheVariants.{Parts, Cover, Value, State, Absent, Order}
+use Rattle.row.specs.declared.fault.Fault.TheVariants.{Subscribed, Full, Wire, Nothing, Length}
 
 abbrev pub number_of : Fault → ℕ
 number_of Memory = 1

@@ -24,7 +24,8 @@ pub record Lawful {R : Type 0} (k : Kind R) : Type 0 where
 abbrev pub rest_record : {R : Type 0} → Kind R → R
 rest_record k = k.raw k.rest
 
--- how records stand for values, where `sound` says which records hold one and `whole` which of these memory can hold
+-- how records stand for values, where `sound` says which records hold one and `whole` which of
+-- these memory can hold
 pub record Represents {R : Type 0} (k : Kind R) (sound whole : R → Bool) : Type 0 where
   -- a text's own record holds it
   pub raw-whole : (t : List ℕ) → k.allowed t ≡ true → whole (k.raw t) ≡ true

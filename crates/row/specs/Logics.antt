@@ -1,5 +1,6 @@
 -- The logic kind: a value is 1 to `text_limit` bits, each low, high, unknown or floating.
-use Rattle.std.specs.Prelude.{ℕ, zero, suc, ◌/◌, ◌%◌, ◌^◌, Bool, cond, ◌&&◌, ◌||◌, List, [], ◌∷◌, map, length, ◌==◌, nat_le, nat_lt}
+use Rattle.std.specs.Prelude.{ℕ, zero, suc, ◌/◌, ◌%◌, ◌^◌, Bool, cond, ◌&&◌, ◌||◌, List, [], ◌∷◌}
+use Rattle.std.specs.Prelude.{map, length, ◌==◌, nat_le, nat_lt}
 use Rattle.std.specs.Int.Digits.{number_from_digits}
 use Rattle.row.specs.Limits.{text_limit}
 use Rattle.row.specs.Kinds.{Kind}
@@ -62,7 +63,13 @@ abbrev pub logic_text : LogicRecord → List ℕ
 logic_text r = cond (logic_sound r) (chars_of r.width r.a r.b) (low ∷ [])
 
 abbrev pub logic_record : List ℕ → LogicRecord
-logic_record t = record { a = number_from_digits 2 (map bit_a t); b = number_from_digits 2 (map bit_b t); width = length t }
+logic_record t =
+    record {
+      a = number_from_digits 2 (map bit_a t);
+      b = number_from_digits 2 (map bit_b t);
+      width = length t;
+    }
 
 abbrev pub logic_kind : Kind LogicRecord
-logic_kind = record { allowed = logic_allowed; rest = low ∷ []; text = logic_text; raw = logic_record }
+logic_kind =
+    record { allowed = logic_allowed; rest = low ∷ []; text = logic_text; raw = logic_record }

@@ -1,5 +1,6 @@
 -- What the plain records of memory mean, and what changing and joining make of them.
-use Rattle.std.specs.Prelude.{Bool, true, false, cond, ◌&&◌, List, map, length, Ok, Err, Result, ◌==◌}
+use Rattle.std.specs.Prelude.{Bool, true, false, cond, ◌&&◌, List, map, length, Ok, Err, Result}
+use Rattle.std.specs.Prelude.{◌==◌}
 use Rattle.row.specs.Limits.{field_limit}
 use Rattle.row.specs.Faults.{refusal}
 use Rattle.row.specs.Kinds.{Kind, rest_record}

@@ -1,5 +1,7 @@
--- Rows, deltas and joining, and a row among those of all taps. A value is known by its text, so a cell holds a text here, a list of bytes.
-use Rattle.std.specs.Prelude.{ℕ, ◌-◌, ◌+◌, ◌*◌, Bool, true, false, List, [], ◌∷◌, ◌++◌, length, take, drop, replicate}
+-- Rows, deltas and joining, and a row among those of all taps. A value is known by its text, so a
+-- cell holds a text here, a list of bytes.
+use Rattle.std.specs.Prelude.{ℕ, ◌-◌, ◌+◌, ◌*◌, Bool, true, false, List, [], ◌∷◌, ◌++◌, length}
+use Rattle.std.specs.Prelude.{take, drop, replicate}
 use Rattle.std.specs.List.{list_all}
 use Rattle.row.specs.Limits.{field_limit}
 
@@ -56,4 +58,5 @@ row_at i places = take field_limit (drop (field_limit * i) places)
 
 -- the places with another row there
 abbrev pub with_row : {X : Type 0} → ℕ → List X → List X → List X
-with_row i row places = take (field_limit * i) places ++ (row ++ drop (field_limit * i + field_limit) places)
+with_row i row places =
+    take (field_limit * i) places ++ (row ++ drop (field_limit * i + field_limit) places)

@@ -1,5 +1,6 @@
 -- The text kind: a value is any text of at most `text_limit` bytes.
-use Rattle.std.specs.Prelude.{ℕ, ◌-◌, Bool, cond, ◌&&◌, List, [], ◌++◌, length, take, drop, replicate, ◌==◌, nat_le, nat_lt}
+use Rattle.std.specs.Prelude.{ℕ, ◌-◌, Bool, cond, ◌&&◌, List, [], ◌++◌, length, take, drop}
+use Rattle.std.specs.Prelude.{replicate, ◌==◌, nat_le, nat_lt}
 use Rattle.std.specs.List.{list_all}
 use Rattle.row.specs.Limits.{text_limit}
 use Rattle.row.specs.Kinds.{Kind}
@@ -24,7 +25,8 @@ text_allowed t = nat_le (length t) text_limit && every is_byte t
 
 -- a record that holds a text: the length is within the limit, and what stands behind it is zero
 abbrev pub text_sound : TextRecord → Bool
-text_sound r = nat_le r.len text_limit && (every is_byte r.bytes && every is_zero (drop r.len r.bytes))
+text_sound r =
+    nat_le r.len text_limit && (every is_byte r.bytes && every is_zero (drop r.len r.bytes))
 
 -- the same of a record that has as many bytes as memory gives it
 abbrev pub text_whole : TextRecord → Bool

@@ -1,6 +1,9 @@
 //! Cells and changes as memory holds them.
 ghost use Rattle.std.specs.Prelude.{◌≡◌, true, map, length, replicate, if◌then◌else◌};
-ghost use Rattle.row.specs.Records.{canonical, canonical_cell, cell_of, cell_record, change_of, change_record, changed_cells, joined_changes, null_cell, is_same, takes, whole_changes, wholly, later, rows_fit, answer_if};
+ghost use Rattle.row.specs.Records.{canonical, canonical_cell, cell_of, cell_record, change_of};
+ghost use Rattle.row.specs.Records.{change_record, changed_cells, joined_changes, null_cell};
+ghost use Rattle.row.specs.Records.{is_same, takes, whole_changes, wholly, later, rows_fit};
+ghost use Rattle.row.specs.Records.{answer_if};
 ghost use Rattle.row.specs.RowLaws.{RowLaws};
 ghost use Rattle.row.specs.Rows.{all_same, null, value, same, becomes, over, changed, join};
 
@@ -21,7 +24,8 @@ pub enum Mark {
     Value,
 }
 
-// Not an enum whose cases hold the record: memory that is lent has a record in each place, and a case without one could not
+// Not an enum whose cases hold the record: memory that is lent has a record in each place, and a
+// case without one could not
 // say what its bytes are.
 /// A change of one field. Where it is same or null, `raw` is the kind's rest record.
 #[derive(Clone, Copy)]
@@ -50,7 +54,8 @@ impl<R: Value> Cell<R> {
         Cell { null: true, raw }
     }
 
-    /// Makes the cell hold the record of its meaning: the rest record where it is null, the rest value's
+    /// Makes the cell hold the record of its meaning: the rest record where it is null, the rest
+    /// value's
     /// where its record is not sound.
     pub fn canonicalize(&mut self)
         ensures record { self.new ≡ canonical_cell R.kind self.old }
@@ -158,7 +163,8 @@ trait Step<By>: Copy {
 impl<R: Value> Step<Change<R>> for Cell<R> {
     ghost after = { takes R.kind };
 
-    // In place: a viewer does this for each place of a row that a line changes, and most changes are same.
+    // In place: a viewer does this for each place of a row that a line changes, and most changes
+    // are same.
     fn step(&mut self, by: &Change<R>) {
         match by.mark {
             Mark::Same => self.canonicalize(),
@@ -191,7 +197,8 @@ impl<R: Value> Step<Cell<R>> for Change<R> {
 // Each place by the one of the other list, if both have the places of a row.
 fn step_all<X: Step<By>, By: Copy>(places: &mut [X], by: &[By]) -> Result<(), Refusal>
     ensures answer { result ≡ answer_if (rows_fit places.old by.now) }
-    ensures places { places.new ≡ (if rows_fit places.old by.now then over X.after places.old by.now else places.old) }
+    ensures places { places.new
+        ≡ (if rows_fit places.old by.now then over X.after places.old by.now else places.old) }
 {
     if places.len() != FIELD_LIMIT || by.len() != FIELD_LIMIT {
         return Err(Refusal::MEMORY);
@@ -249,8 +256,10 @@ pub fn all_same<R: Value>(delta: &[Change<R>]) -> bool
     true
 }
 
-/// Changes a row by a delta, each of twelve places. Every cell then holds the record of its meaning,
-/// whatever record stood there. Refused with 1, and nothing touched, where either has another length.
+/// Changes a row by a delta, each of twelve places. Every cell then holds the record of its
+/// meaning,
+/// whatever record stood there. Refused with 1, and nothing touched, where either has another
+/// length.
 pub fn change_row<R: Value>(row: &mut [Cell<R>], delta: &[Change<R>]) -> Result<(), Refusal>
     ensures answer { result ≡ answer_if (rows_fit row.old delta.now) }
     ensures cells { row.new ≡ (if rows_fit row.old delta.now
@@ -291,9 +300,12 @@ pub fn whole_row<R: Value>(row: &[Cell<R>], delta: &mut [Change<R>]) -> Result<(
     step_all(delta, row)
 }
 
-/// What changing a row and joining deltas do, field by field: a cell stays where the change is same,
-/// is null after null and has the value after a value; the join keeps the later change; a row changed
-/// by a join is the row changed by the one delta and then by the other. Nothing to run: the contract
+/// What changing a row and joining deltas do, field by field: a cell stays where the change is
+/// same,
+/// is null after null and has the value after a value; the join keeps the later change; a row
+/// changed
+/// by a join is the row changed by the one delta and then by the other. Nothing to run: the
+/// contract
 /// says it.
 pub fn rows_keep_their_laws()
     ensures { RowLaws }

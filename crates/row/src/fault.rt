@@ -60,8 +60,10 @@ impl Fault {
     }
 }
 
-// Always two numbers, so that programs print both and tests compare both; 0 stands where a fault has no place.
-/// A refusal: a fault and its place, an offset in bytes from 0 in the text for faults 2 to 8, otherwise 0.
+// Always two numbers, so that programs print both and tests compare both; 0 stands where a fault
+// has no place.
+/// A refusal: a fault and its place, an offset in bytes from 0 in the text for faults 2 to 8,
+/// otherwise 0.
 #[derive(Clone, Copy, PartialEq, Debug)]
 pub struct Refusal {
     /// What is wrong.

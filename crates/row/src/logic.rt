@@ -4,13 +4,15 @@ ghost use Rattle.std.specs.Option.{option_map};
 ghost use Rattle.row.specs.Kinds.{rest_record};
 ghost use Rattle.row.specs.Limits.{text_limit};
 ghost use Rattle.row.specs.Texts.{padded};
-ghost use Rattle.row.specs.Logics.{is_logic, bit_a, bit_b, char_of, bit_at, logic_allowed, logic_sound, logic_text, logic_record, logic_kind};
+ghost use Rattle.row.specs.Logics.{is_logic, bit_a, bit_b, char_of, bit_at, logic_allowed};
+ghost use Rattle.row.specs.Logics.{logic_sound, logic_text, logic_record, logic_kind};
 ghost use Rattle.row.specs.LogicsLemmas.{logic-lawful};
 
 use crate::text::TEXT_LIMIT;
 use crate::value::Value;
 
-/// A logic value as memory holds it: the words and the width, 1 to 32. Nothing is known of a record,
+/// A logic value as memory holds it: the words and the width, 1 to 32. Nothing is known of a
+/// record,
 /// since lent memory can hold any; one that is not sound means the rest value, one low bit.
 #[derive(Clone, Copy, PartialEq, Debug)]
 pub struct LogicRecord {
@@ -22,7 +24,8 @@ pub struct LogicRecord {
     pub width: u8,
 }
 
-/// A logic value: a record whose width is within its limits and whose words have no bit at or above it. Of a
+/// A logic value: a record whose width is within its limits and whose words have no bit at or above
+/// it. Of a
 /// bit the words have (0, 0) for `0`, (1, 0) for `1`, (0, 1) for `z` and (1, 1) for `x`.
 #[derive(Clone, Copy)]
 pub struct Logic {
@@ -31,9 +34,11 @@ pub struct Logic {
 }
 
 // A character's bits in the two words.
-// A pair of numbers, since they are added to the words; an enum would be turned into these and back.
+// A pair of numbers, since they are added to the words; an enum would be turned into these and
+// back.
 fn bits_of(character: u8) -> Option<(u32, u32)>
-    ensures { result ≡ (if is_logic character then Some (bit_a character, bit_b character) else None) }
+    ensures { result
+        ≡ (if is_logic character then Some (bit_a character, bit_b character) else None) }
 {
     match character as char {
         '0' => Some((0, 0)),
@@ -101,7 +106,8 @@ impl Logic {
 
     /// The value with this text, if there is one.
     pub fn new(text: &[u8]) -> Option<Logic>
-        ensures { option_map (λ l. l.held) result ≡ (if logic_allowed text.now then Some (logic_record text.now) else None) }
+        ensures { option_map (λ l. l.held) result
+            ≡ (if logic_allowed text.now then Some (logic_record text.now) else None) }
     {
         if text.is_empty() || text.len() > TEXT_LIMIT {
             return None;
@@ -145,7 +151,8 @@ impl Logic {
     {
         let LogicRecord { a, b, width } = self.held;
         *out = [0; TEXT_LIMIT];
-        // By index, from the highest bit: std's contracts say nothing of the places behind those that `iter_mut().take(..)` visits.
+        // By index, from the highest bit: std's contracts say nothing of the places behind those
+        // that `iter_mut().take(..)` visits.
         for i in 0..width {
             let place = width - 1 - i;
             out[i as usize] = char_of(bit_at(a, place), bit_at(b, place));

@@ -23,7 +23,8 @@ pub struct Tap {
 impl TryFrom<usize> for Tap {
     type Error = Refusal;
 
-    ghost try_from_gives = { λ number tap. result_map_both (λ t. t.number) (λ e. e) tap ≡ tap_numbered number };
+    ghost try_from_gives = { λ number tap.
+        result_map_both (λ t. t.number) (λ e. e) tap ≡ tap_numbered number };
 
     fn try_from(number: usize) -> Result<Tap, Refusal> {
         if number == 0 || number > TAP_LIMIT {

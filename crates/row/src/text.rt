@@ -3,13 +3,15 @@ ghost use Rattle.std.specs.Prelude.{◌≡◌, ◌≤◌, true, length, if◌the
 ghost use Rattle.std.specs.Option.{option_map};
 ghost use Rattle.row.specs.Kinds.{rest_record};
 ghost use Rattle.row.specs.Limits.{text_limit};
-ghost use Rattle.row.specs.Texts.{every, is_zero, padded, text_allowed, text_kind, text_of, text_sound, text_record};
+ghost use Rattle.row.specs.Texts.{every, is_zero, padded, text_allowed, text_kind, text_of};
+ghost use Rattle.row.specs.Texts.{text_sound, text_record};
 
 /// The bytes of a value's text, at most.
 pub const TEXT_LIMIT: usize = 32;
 
 /// A text as memory holds it: the bytes, and how many of them count, 0 to 32. Nothing is known of a
-/// record, since lent memory can hold any; one that is not sound means the rest value, the empty text.
+/// record, since lent memory can hold any; one that is not sound means the rest value, the empty
+/// text.
 #[derive(Clone, Copy, PartialEq, Debug)]
 pub struct TextRecord {
     /// The bytes, zero behind the text.
@@ -27,7 +29,8 @@ pub struct Text {
 
 const ZEROS: [u8; TEXT_LIMIT] = [0; TEXT_LIMIT];
 
-// Compared as a whole, which takes a fifth of the time of a loop that stops at the first other byte: a viewer asks this of each
+// Compared as a whole, which takes a fifth of the time of a loop that stops at the first other
+// byte: a viewer asks this of each
 // value in a row that a line changes.
 #[inline(always)]
 fn are_zero(bytes: &[u8]) -> bool
@@ -71,7 +74,8 @@ impl Text {
 
     /// The text with these bytes, if they are not too many.
     pub fn new(text: &[u8]) -> Option<Text>
-        ensures { option_map (λ t. t.held) result ≡ (if text_allowed text.now then Some (text_record text.now) else None) }
+        ensures { option_map (λ t. t.held) result
+            ≡ (if text_allowed text.now then Some (text_record text.now) else None) }
     {
         if text.len() > TEXT_LIMIT {
             return None;

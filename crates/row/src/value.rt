@@ -25,7 +25,8 @@ pub trait Value: Copy {
         ensures length { result ≡ length (kind.text self.now) }
         ensures bytes { out.new ≡ padded text_limit (kind.text self.now) };
 
-    /// Makes the record that of the value that it means: one that is not sound becomes the rest value's.
+    /// Makes the record that of the value that it means: one that is not sound becomes the rest
+    /// value's.
     fn canonicalize(&mut self)
         ensures { self.new ≡ kind.raw (kind.text self.old) };
 

@@ -1,5 +1,7 @@
 -- Bytes that a reader has and a writer holds, over several reads and writes.
-use Rattle.std.proofs.Common.{◌≡◌, ◌+◌, ◌-◌, ◌^◌, ◌<◌, ◌≤◌, List, [], ◌++◌, ℕ, length, Some, None, Option, IfSome, true, is_ok, Ok, Err, OnOk, Result, refl, sym, ap, ◌∙◌, append_assoc, subst, arith, inl, inr, ◌⊎◌}
+use Rattle.std.proofs.Common.{◌≡◌, ◌+◌, ◌-◌, ◌^◌, ◌<◌, ◌≤◌, List, [], ◌++◌, ℕ, length, Some, None}
+use Rattle.std.proofs.Common.{Option, IfSome, true, is_ok, Ok, Err, OnOk, Result, refl, sym, ap}
+use Rattle.std.proofs.Common.{◌∙◌, append_assoc, subst, arith, inl, inr, ◌⊎◌}
 use Rattle.std.specs.Io.KnownBytes.{Appends, Consumes, IsAtEnd, Keeps}
 use Rattle.std.proofs.lemmas.Bool.{both_ways}
 use Rattle.std.proofs.lemmas.List.{append-nil, length-append}

@@ -1,5 +1,6 @@
 -- Of a line that is too long, the first bytes are too long too.
-use Rattle.std.proofs.Common.{ℕ, ◌+◌, ◌-◌, ◌<◌, ◌≤◌, List, length, take, refl, arith, inl, inr, ◌⊎◌, sym, subst}
+use Rattle.std.proofs.Common.{ℕ, ◌+◌, ◌-◌, ◌<◌, ◌≤◌, List, length, take, refl, arith, inl, inr, ◌⊎◌}
+use Rattle.std.proofs.Common.{sym, subst}
 use Rattle.std.proofs.lemmas.List.{length-take-le, take_all}
 use Rattle.std.proofs.lemmas.Bool.{cases_lt, cond_both}
 use Rattle.streams.specs.Answers.{Hearing, HeardAlike}

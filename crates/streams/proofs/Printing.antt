@@ -1,13 +1,16 @@
 -- What is printed of an input's bytes, of which each line's first are held, is what is printed of
 -- its lines.
-use Rattle.std.proofs.Common.{◌≡◌, ℕ, ◌+◌, ◌^◌, ◌<◌, Bool, true, false, cond, eqb, ltb, List, [], ◌∷◌, ◌++◌, length, take, sym, refl, ap, ◌∙◌, append_assoc, arith}
+use Rattle.std.proofs.Common.{◌≡◌, ℕ, ◌+◌, ◌^◌, ◌<◌, Bool, true, false, cond, eqb, ltb, List, []}
+use Rattle.std.proofs.Common.{◌∷◌, ◌++◌, length, take, sym, refl, ap, ◌∙◌, append_assoc, arith}
 use Rattle.std.specs.List.{flat_map}
 use Rattle.std.proofs.lemmas.List.{append-nil, length-append, length-take, take_all}
 use Rattle.std.proofs.lemmas.Bool.{cond-true, cond-false, lt-ltb}
 use Rattle.tlcp.specs.Parts.{divided_by, push}
-use Rattle.streams.specs.Answers.{Hearing, HeardAlike, Enough, answer_line, answers, printed, printed_so_far}
+use Rattle.streams.specs.Answers.{Hearing, HeardAlike, Enough, answer_line, answers, printed}
+use Rattle.streams.specs.Answers.{printed_so_far}
 use Rattle.streams.specs.Ends.{line_feed}
-use Rattle.streams.specs.Feeding.{State, Step, idle, fresh, next, ended, fed, finished, hear_line, keep, PrintsAll}
+use Rattle.streams.specs.Feeding.{State, Step, idle, fresh, next, ended, fed, finished, hear_line}
+use Rattle.streams.specs.Feeding.{keep, PrintsAll}
 use Rattle.streams.specs.Lines.{bare, ended_among, ended_from, lines_among, lines_from}
 use Rattle.streams.proofs.Fed.{fed-all}
 use Rattle.streams.proofs.Holding.{held_with-front}

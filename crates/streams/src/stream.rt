@@ -1,6 +1,7 @@
 //! The lines of a stream, cut from its blocks and heard one after another.
 ghost use Rattle.std.specs.Prelude.{◌≡◌, [], OnOk};
-ghost use Rattle.streams.specs.Feeding.{fresh, keep, hear_line, ended, fed, last_line, finished, CutAnywhere, PrintsAll};
+ghost use Rattle.streams.specs.Feeding.{fresh, keep, hear_line, ended, fed, last_line, finished};
+ghost use Rattle.streams.specs.Feeding.{CutAnywhere, PrintsAll};
 ghost use Rattle.streams.specs.Streams.{Fed, HeardLine, state_of, state_with};
 
 use crate::ends::split_line;

@@ -13,5 +13,8 @@ plain-decodes (b ∷ v) e =
     let h = or_parts (b == 37) (list_any (λ x. x == 37) v) e in
     plain h.0 (plain-decodes v h.1)
 
-pub plain-read : (allowed : List ℕ → Bool) (v : List ℕ) → list_any (λ b. b == 37) v ≡ false → read_text allowed v ≡ read_content allowed v
-plain-read allowed v none = sym (ap (λ d. text_or allowed d.bytes d.fault) ((reads-escapes v v).1 (plain-decodes v none)))
+pub plain-read :
+    (allowed : List ℕ → Bool) (v : List ℕ) → list_any (λ b. b == 37) v ≡ false
+    → read_text allowed v ≡ read_content allowed v
+plain-read allowed v none =
+    sym (ap (λ d. text_or allowed d.bytes d.fault) ((reads-escapes v v).1 (plain-decodes v none)))

@@ -1,6 +1,9 @@
 -- Texts divided by a byte, and joined by it again.
-use Rattle.std.proofs.Common.{◌≡◌, ℕ, suc, ◌+◌, ◌≤◌, Bool, true, false, cond, eqb, ltb, List, [], ◌∷◌, ◌++◌, length, take, drop, Some, None, Option, sym, refl, ap, ◌∙◌, arith}
-use Rattle.std.proofs.lemmas.Bool.{cond_both, cond-true, cond-false, or_parts, or_from, eqb-true, eq-eqb, lt-ltb}
+use Rattle.std.proofs.Common.{◌≡◌, ℕ, suc, ◌+◌, ◌≤◌, Bool, true, false, cond, eqb, ltb, List, []}
+use Rattle.std.proofs.Common.{◌∷◌, ◌++◌, length, take, drop, Some, None, Option, sym, refl, ap, ◌∙◌}
+use Rattle.std.proofs.Common.{arith}
+use Rattle.std.proofs.lemmas.Bool.{cond_both, cond-true, cond-false, or_parts, or_from, eqb-true}
+use Rattle.std.proofs.lemmas.Bool.{eq-eqb, lt-ltb}
 use Rattle.std.proofs.lemmas.Bool.Decides.{nat_tests}
 use Rattle.tlcp.specs.Parts.{place_of, before, behind}
 use Rattle.tlcp.specs.Parts.{push}
@@ -8,7 +11,9 @@ use Rattle.tlcp.specs.Dividing.{has, divided_by, each_behind, joined_by, NoneHas
 
 module _ (c : ℕ) where
   -- a text without c goes before what begins with an empty one
-  divided-append : (v s : List ℕ) (vs : List (List ℕ)) → has c v ≡ false → divided_by c s ≡ [] ∷ vs → divided_by c (v ++ s) ≡ v ∷ vs
+  divided-append :
+      (v s : List ℕ) (vs : List (List ℕ)) → has c v ≡ false → divided_by c s ≡ [] ∷ vs
+      → divided_by c (v ++ s) ≡ v ∷ vs
   divided-append [] s vs e f = f
   divided-append (b ∷ v) s vs e f =
       let h = or_parts (eqb b c) (has c v) e in
@@ -16,15 +21,20 @@ module _ (c : ℕ) where
 
   divided-behind : (vs : List (List ℕ)) → NoneHas c vs → divided_by c (each_behind c vs) ≡ [] ∷ vs
   divided-behind [] h = refl
-  divided-behind (v ∷ vs) h = cond-true (eqb c c) _ _ (eq-eqb c c refl) ∙ ap (λ ws. [] ∷ ws) (divided-append v (each_behind c vs) vs h.0 (divided-behind vs h.1))
+  divided-behind (v ∷ vs) h =
+      cond-true (eqb c c) _ _ (eq-eqb c c refl)
+      ∙ ap (λ ws. [] ∷ ws) (divided-append v (each_behind c vs) vs h.0 (divided-behind vs h.1))
 
-  pub divided-joined : (vs : List (List ℕ)) → 1 ≤ length vs → NoneHas c vs → divided_by c (joined_by c vs) ≡ vs
+  pub divided-joined :
+      (vs : List (List ℕ)) → 1 ≤ length vs → NoneHas c vs → divided_by c (joined_by c vs) ≡ vs
   divided-joined [] some h = absurd (omega arith)
-  divided-joined (v ∷ vs) some h = divided-append v (each_behind c vs) vs h.0 (divided-behind vs h.1)
+  divided-joined (v ∷ vs) some h =
+      divided-append v (each_behind c vs) vs h.0 (divided-behind vs h.1)
 
   pub divided-some : (s : List ℕ) → 1 ≤ length (divided_by c s)
   divided-some [] = omega arith
-  divided-some (b ∷ s) = cond_both (eqb b c) _ _ (λ vs. 1 ≤ length vs) (λ _. omega arith) (λ _. pushed (divided_by c s))
+  divided-some (b ∷ s) =
+      cond_both (eqb b c) _ _ (λ vs. 1 ≤ length vs) (λ _. omega arith) (λ _. pushed (divided_by c s))
     where
       pushed : (vs : List (List ℕ)) → 1 ≤ length (push b vs)
       pushed [] = omega arith
@@ -32,7 +42,8 @@ module _ (c : ℕ) where
 
   pub divided-apart : (s : List ℕ) → NoneHas c (divided_by c s)
   divided-apart [] = (refl, tt)
-  divided-apart (b ∷ s) = cond_both (eqb b c) _ _ (NoneHas c) (λ _. (refl, divided-apart s)) (λ other. pushed other (divided_by c s) (divided-apart s))
+  divided-apart (b ∷ s) =
+      cond_both (eqb b c) _ _ (NoneHas c) (λ _. (refl, divided-apart s)) (λ other. pushed other (divided_by c s) (divided-apart s))
     where
       pushed : eqb b c ≡ false → (vs : List (List ℕ)) → NoneHas c vs → NoneHas c (push b vs)
       pushed other [] h = (or_from (eqb b c) false other refl, tt)
@@ -74,7 +85,9 @@ module _ (c : ℕ) where
       split : ℕ → List (List ℕ)
       split m = take m (x ∷ s) ∷ parts_of (tail m)
 
-      by : (t : Bool) → eqb x c ≡ t → divided_by c s ≡ before c s ∷ parts_of (behind c s) → divided_by c (x ∷ s) ≡ split (place_of c (x ∷ s))
+      by :
+          (t : Bool) → eqb x c ≡ t → divided_by c s ≡ before c s ∷ parts_of (behind c s)
+          → divided_by c (x ∷ s) ≡ split (place_of c (x ∷ s))
       by true f ih =
           cond-true (eqb x c) _ _ f
           ∙ ap (λ o. [] ∷ parts_of o) (sym (cond-true (ltb 0 (suc (length s))) (Some s) None (lt-ltb 0 (suc (length s)) (omega arith))))

@@ -1,6 +1,8 @@
 -- Bytes in their places: what a writer leaves, step by step.
-use Rattle.std.proofs.Common.{◌≡◌, ℕ, ◌+◌, ◌≤◌, true, List, ◌++◌, length, take, drop, Ok, Err, sym, ap, ◌∙◌, append_assoc, add_assoc, arith}
-use Rattle.std.proofs.lemmas.List.{length-append, length-drop, length-take-le, take_at, drop_at, drop-drop}
+use Rattle.std.proofs.Common.{◌≡◌, ℕ, ◌+◌, ◌≤◌, true, List, ◌++◌, length, take, drop, Ok, Err, sym}
+use Rattle.std.proofs.Common.{ap, ◌∙◌, append_assoc, add_assoc, arith}
+use Rattle.std.proofs.lemmas.List.{length-append, length-drop, length-take-le, take_at, drop_at}
+use Rattle.std.proofs.lemmas.List.{drop-drop}
 use Rattle.std.proofs.lemmas.Bool.{le-leb, cond-true}
 use Rattle.row.specs.declared.fault.Refusal.{Refusal}
 use Rattle.tlcp.proofs.Reading.{refused}
@@ -15,7 +17,9 @@ module _ (at : ℕ) (t u xs : List ℕ) (room : at + length (t ++ u) ≤ length 
   both = length-append t u
 
   front : length (take at xs ++ t) ≡ at + length t
-  front = length-append (take at xs) t ∙ ap (λ k. k + length t) (length-take-le at xs (omega (arith, both)))
+  front =
+      length-append (take at xs) t
+      ∙ ap (λ k. k + length t) (length-take-le at xs (omega (arith, both)))
 
   split : placed at t xs ≡ (take at xs ++ t) ++ drop (at + length t) xs
   split = sym (append_assoc (take at xs) t _)
@@ -26,7 +30,9 @@ module _ (at : ℕ) (t u xs : List ℕ) (room : at + length (t ++ u) ≤ length 
       ∙ (λ i. take_at (take at xs ++ t) (drop (at + length t) xs) (at + length t) front i ++ (u ++ behind i))
       ∙ append_assoc (take at xs) t _ ∙ ap (λ l. take at xs ++ l) (sym (append_assoc t u _))
     where
-      behind : drop (at + length t + length u) ((take at xs ++ t) ++ drop (at + length t) xs) ≡ drop (at + length (t ++ u)) xs
+      behind :
+          drop (at + length t + length u) ((take at xs ++ t) ++ drop (at + length t) xs)
+          ≡ drop (at + length (t ++ u)) xs
       behind =
           sym (drop-drop (length u) (at + length t) ((take at xs ++ t) ++ drop (at + length t) xs))
           ∙ ap (drop (length u)) (drop_at (take at xs ++ t) (drop (at + length t) xs) (at + length t) front)
@@ -42,7 +48,9 @@ module _ (at : ℕ) (t u xs : List ℕ) (room : at + length (t ++ u) ≤ length 
     fit : end + length u ≤ length ys
     fit = omega (arith, ap length now, length-placed, both)
 
-    pub then-placed : (r : ℕ) (zs : List ℕ) → Ok r ≡ end_or end u ys → zs ≡ placed_or end u ys → (r ≡ at + length (t ++ u)) × (zs ≡ placed at (t ++ u) xs)
+    pub then-placed :
+        (r : ℕ) (zs : List ℕ) → Ok r ≡ end_or end u ys → zs ≡ placed_or end u ys
+        → (r ≡ at + length (t ++ u)) × (zs ≡ placed at (t ++ u) xs)
     then-placed r zs answer bytes =
         let fits-it = fitting end u ys fit in
         let last : Ok r ≡ Ok (end + length u) = answer ∙ cond-true _ _ _ fits-it in

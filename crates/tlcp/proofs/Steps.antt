@@ -1,6 +1,9 @@
 -- The steps of the loop that reads escapes.
-use Rattle.std.proofs.Common.{◌≡◌, ℕ, ◌+◌, ◌-◌, ◌*◌, ◌<◌, ◌≤◌, Bool, true, false, cond, ◌&&◌, eqb, leb, List, [], ◌∷◌, ◌++◌, length, get_or, take, drop, set, Some, None, Option, sym, refl, ap, ◌∙◌, append_assoc, arith}
-use Rattle.std.proofs.lemmas.List.{length-drop, take_all, drop_all, drop_more, set_at, length_push, take-append-le}
+use Rattle.std.proofs.Common.{◌≡◌, ℕ, ◌+◌, ◌-◌, ◌*◌, ◌<◌, ◌≤◌, Bool, true, false, cond, ◌&&◌, eqb}
+use Rattle.std.proofs.Common.{leb, List, [], ◌∷◌, ◌++◌, length, get_or, take, drop, set, Some, None}
+use Rattle.std.proofs.Common.{Option, sym, refl, ap, ◌∙◌, append_assoc, arith}
+use Rattle.std.proofs.lemmas.List.{length-drop, take_all, drop_all, drop_more, set_at, length_push}
+use Rattle.std.proofs.lemmas.List.{take-append-le}
 use Rattle.std.proofs.lemmas.Bool.{cond_both, eqb-false, le-leb, ne_eqb}
 use Rattle.std.proofs.lemmas.Option.{none-some, same_Some}
 use Rattle.tlcp.specs.Bytes.{is_hex}
@@ -12,11 +15,14 @@ go_on at n None = stopped at
 go_on at n (Some u) = onto (u.0 ∷ []) (decode_at (at + (n - length u.1)) u.1)
 
 -- cases of a test under both sides
-either : {X : Type 0} (f : X → Decoded) (t : Bool) (x y : X) (d e : Decoded) → d ≡ f x → e ≡ f y → cond t d e ≡ f (cond t x y)
+either :
+    {X : Type 0} (f : X → Decoded) (t : Bool) (x y : X) (d e : Decoded) → d ≡ f x → e ≡ f y
+    → cond t d e ≡ f (cond t x y)
 either f true x y d e p q = p
 either f false x y d e p q = q
 
-pub unit-step : (at : ℕ) (s : List ℕ) → 0 < length s → decode_at at s ≡ go_on at (length s) (unit_of s)
+pub unit-step :
+    (at : ℕ) (s : List ℕ) → 0 < length s → decode_at at s ≡ go_on at (length s) (unit_of s)
 unit-step at [] h = absurd (omega arith)
 unit-step at (b ∷ []) h = either (go_on at 1) (eqb b 37) _ _ _ _ refl refl
 unit-step at (b ∷ x ∷ []) h = either (go_on at 2) (eqb b 37) _ _ _ _ refl refl
@@ -47,10 +53,13 @@ unit-shorter s u =
     none e = absurd (none-some u e)
 
     cut : (b n : ℕ) → length s - n < length s → Shorter (Some (b, drop n s))
-    cut b n less e = omega (arith, length-drop n s, ap (λ v. length v.1) (same_Some (b, drop n s) u e))
+    cut b n less e =
+        omega (arith, length-drop n s, ap (λ v. length v.1) (same_Some (b, drop n s) u e))
 
 -- out holds as much of t as it has room for; one byte more
-pub overlaid-more : (t xs : List ℕ) (b : ℕ) → length t < length xs → set (overlaid t xs) (length t) b ≡ overlaid (t ++ b ∷ []) xs
+pub overlaid-more :
+    (t xs : List ℕ) (b : ℕ) → length t < length xs
+    → set (overlaid t xs) (length t) b ≡ overlaid (t ++ b ∷ []) xs
 overlaid-more t xs b h =
     let all = take_all (length xs) t (omega arith) in
     let l = length_push t b in
@@ -61,7 +70,8 @@ overlaid-more t xs b h =
     ∙ sym (append_assoc t (b ∷ []) (drop (length t + 1) xs))
     ∙ sym (λ i. more i ++ drop (l i) xs)
 
-pub overlaid-full : (t xs : List ℕ) (b : ℕ) → length xs ≤ length t → overlaid t xs ≡ overlaid (t ++ b ∷ []) xs
+pub overlaid-full :
+    (t xs : List ℕ) (b : ℕ) → length xs ≤ length t → overlaid t xs ≡ overlaid (t ++ b ∷ []) xs
 overlaid-full t xs b h =
     let l = length_push t b in
     (λ i. take (length xs) t ++ drop_all (length t) xs h i)

@@ -1,5 +1,7 @@
--- The rule of the table of classes: a test that antt computes at each of its 256 entries, and a lemma that carries it to each byte.
-use Rattle.std.proofs.Common.{◌≡◌, ℕ, ◌<◌, Bool, true, not, eqb, List, [], ◌∷◌, get_or, refl, ◌∙◌, subst, zero-add, lit<}
+-- The rule of the table of classes: a test that antt computes at each of its 256 entries, and a
+-- lemma that carries it to each byte.
+use Rattle.std.proofs.Common.{◌≡◌, ℕ, ◌<◌, Bool, true, not, eqb, List, [], ◌∷◌, get_or, refl, ◌∙◌}
+use Rattle.std.proofs.Common.{subst, zero-add, lit<}
 use lib.Bits.{bit_and}
 use Rattle.std.specs.Bool.{beq}
 use Rattle.std.specs.Cmp.{booleans_Decides}
@@ -8,7 +10,8 @@ use Rattle.std.proofs.lemmas.List.FromFn.{get_or-range_with_len}
 use Rattle.std.proofs.lemmas.List.Sums.{AllPass-from_list_all}
 use Rattle.tlcp.specs.Bytes.{bit_of, in_class}
 use Rattle.tlcp.specs.declared.class.Class.{Class}
-use Rattle.tlcp.specs.declared.class.Class.TheVariants.{Digit, Hex, Escaped, EscapedFirst, Reserved, Alphanumeric, Plain}
+use Rattle.tlcp.specs.declared.class.Class.TheVariants.{Digit, Hex, Escaped, EscapedFirst, Reserved}
+use Rattle.tlcp.specs.declared.class.Class.TheVariants.{Alphanumeric, Plain}
 
 abbrev pub has : ℕ → Class → Bool
 has x class = not (eqb (bit_and x (bit_of class)) 0)

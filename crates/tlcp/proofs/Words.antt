@@ -1,5 +1,6 @@
 -- Which word a text is.
-use Rattle.std.proofs.Common.{◌≡◌, ℕ, ◌&&◌, ◌==◌, true, List, [], ◌∷◌, Some, sym, refl, ap, ◌∙◌, ⊎_elim}
+use Rattle.std.proofs.Common.{◌≡◌, ℕ, ◌&&◌, ◌==◌, true, List, [], ◌∷◌, Some, sym, refl, ap, ◌∙◌}
+use Rattle.std.proofs.Common.{⊎_elim}
 use Rattle.std.proofs.lemmas.Bool.{cases_Bool, cond-true, cond-false}
 use Rattle.std.specs.Str.{bytes_eq}
 use Rattle.std.proofs.lemmas.Slice.Eq.{bytes_eq-Decides}
@@ -17,7 +18,9 @@ pub same_bytes_lem : (x y : List ℕ) → same_bytes x y ≡ true → x ≡ y
 same_bytes_lem x y e = (bytes_eq-Decides x y).0 (eq-same_bytes x y ∙ e)
 
 -- the thing that was found has that word
-pub first_word : {X : Type 0} (word : X → List ℕ) (xs : List X) (s : List ℕ) (x : X) → first_with word xs s ≡ Some x → s ≡ word x
+pub first_word :
+    {X : Type 0} (word : X → List ℕ) (xs : List X) (s : List ℕ) (x : X)
+    → first_with word xs s ≡ Some x → s ≡ word x
 first_word word [] s x e = cc
 first_word word (y ∷ xs) s x e =
     ⊎_elim

@@ -1,5 +1,6 @@
 -- Putting a delta that leaves each cell as it is.
-use Rattle.std.proofs.Common.{◌≡◌, ℕ, true, cond, nat_le, Bool, List, [], ◌∷◌, ◌++◌, map, length, Ok, Err}
+use Rattle.std.proofs.Common.{◌≡◌, ℕ, true, cond, nat_le, Bool, List, [], ◌∷◌, ◌++◌, map, length}
+use Rattle.std.proofs.Common.{Ok, Err}
 use Rattle.std.proofs.Common.{Result, sym, refl, ap, ◌∙◌}
 use Rattle.std.proofs.lemmas.List.{append-nil}
 use Rattle.std.proofs.lemmas.Bool.{cond_both, cond-true}

@@ -6,7 +6,8 @@ use Rattle.compose.specs.Drafts.{bytes_or, ending, left_by, length_or}
 use Rattle.compose.specs.Assignments.{assignments_in}
 use Rattle.compose.specs.Writers.{draft_of}
 use Rattle.compose.proofs.Rooms.{composes-all}
-use Rattle.compose.proofs.Wholes.{as_many, comes-finished, comes-first, comes-next, comes-refused, finished-left, item, open-add}
+use Rattle.compose.proofs.Wholes.{as_many, comes-finished, comes-first, comes-next, comes-refused}
+use Rattle.compose.proofs.Wholes.{finished-left, item, open-add}
 use Rattle.compose.proofs.whole.compose.Goals as goal
 
 -- the lent bytes end as the writer left them

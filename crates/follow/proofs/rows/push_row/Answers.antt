@@ -1,4 +1,5 @@
-use Rattle.std.proofs.Common.{◌++◌, take, replicate, vec_items, sym, refl, ap, ◌∙◌, append_assoc, [], ◌∷◌}
+use Rattle.std.proofs.Common.{◌++◌, take, replicate, vec_items, sym, refl, ap, ◌∙◌, append_assoc}
+use Rattle.std.proofs.Common.{[], ◌∷◌}
 use Rattle.std.proofs.lemmas.Bool.{cond-true}
 use Rattle.std.proofs.lemmas.List.{append-nil}
 use Rattle.row.specs.Limits.{field_limit}

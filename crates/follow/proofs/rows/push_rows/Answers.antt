@@ -15,7 +15,8 @@ loop-entry-preserved g c =
       can_next = search rules;
       is_finite = search rules;
       size = sizes ∙ turn.invariant.size;
-      long = omega (arith, turn.invariant.long, turn.invariant.size, long, ap length entries, ap length cells ∙ length-append row left.b.rest.now);
+      long =
+          omega (arith, turn.invariant.long, turn.invariant.size, long, ap length entries, ap length cells ∙ length-append row left.b.rest.now);
       text =
           ap (λ l. l ++ rows_text k left.a.rest.now left.b.rest.now) c.in_ok-push_entry.ensures
           ∙ append_assoc out (row_text k c.in-Some.entry.now row) _

@@ -10,5 +10,7 @@ invariant-loop-entry g l = record {
   is_finite : (goal.iterator-loop-entry g).is_finite l.entry-iterator;
   size : l.entry-iterator.b.size ≡ field_limit;
   long : length l.entry-iterator.b.rest.now ≡ field_limit * length l.entry-iterator.a.rest.now;
-  text : vec_items l.out ++ rows_text g.V.Value.kind l.entry-iterator.a.rest.now l.entry-iterator.b.rest.now ≡ vec_items l.initial.out ++ rows_text g.V.Value.kind l.viewer.entries l.cells;
+  text :
+      vec_items l.out ++ rows_text g.V.Value.kind l.entry-iterator.a.rest.now l.entry-iterator.b.rest.now
+      ≡ vec_items l.initial.out ++ rows_text g.V.Value.kind l.viewer.entries l.cells;
 }

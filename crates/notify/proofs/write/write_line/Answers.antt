@@ -8,7 +8,13 @@ pub returns-in_err-compose : goal.returns-in_err-compose
 returns-in_err-compose c =
     let p = err_from_is_err_and c.from_residual.result c.from_residual.ensures.1 in
     let h = line_refused (saying_of c.args.message) c.args.at c.args.out.now c.if-is_within.ensures _ c.in_err-compose.ensures.line in
-    rw (p.1, p.2) (record { answer = h.0; bytes = h.1; read_back = λ is. absurd (h.2 is); unbroken = λ is. absurd (h.2 is) })
+    rw (p.1, p.2) (record {
+      answer =
+          h.0;
+      bytes = h.1;
+      read_back = λ is. absurd (h.2 is);
+      unbroken = λ is. absurd (h.2 is);
+    })
 
 pub returns-in_ok-compose : goal.returns-in_ok-compose
 returns-in_ok-compose c =

@@ -1,5 +1,6 @@
 use Rattle.std.proofs.Common.{sym, ◌∙◌}
-use Rattle.notify.proofs.Updating.{update-from, update-short, update-back, update-unbroken, update-unrefused, update-answer, update-placed}
+use Rattle.notify.proofs.Updating.{update-from, update-short, update-back, update-unbroken}
+use Rattle.notify.proofs.Updating.{update-unrefused, update-answer, update-placed}
 use Rattle.notify.proofs.write.write_update.Goals as goal
 
 pub returns-in_err-compose_update : goal.returns-in_err-compose_update
@@ -19,8 +20,10 @@ returns g c =
     let h = update-from k id delta fields c.if-delta-ne-FIELD_LIMIT.false c.if-not-hold.ensures (sym c.covers.ensures ∙ c.if-not-covers.false) in
     let line = c.in_ok-compose_update.ensures in
     record {
-      answer = update-answer k law id delta fields h _ line c.args.at c.args.out.now c.put.ensures.answer;
-      bytes = update-placed k law id delta fields h _ line c.args.at c.args.out.now c.put.ensures.bytes;
+      answer =
+          update-answer k law id delta fields h _ line c.args.at c.args.out.now c.put.ensures.answer;
+      bytes =
+          update-placed k law id delta fields h _ line c.args.at c.args.out.now c.put.ensures.bytes;
       read_back = update-back k law id delta fields;
       short = update-short k law id delta fields;
       unbroken = update-unbroken k law id delta fields;

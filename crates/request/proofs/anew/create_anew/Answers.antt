@@ -1,4 +1,5 @@
-use Rattle.std.proofs.Common.{◌≡◌, ℕ, cond, List, [], ◌∷◌, Some, None, Err, Option, sym, refl, ap, ◌∙◌, rules, codes}
+use Rattle.std.proofs.Common.{◌≡◌, ℕ, cond, List, [], ◌∷◌, Some, None, Err, Option, sym, refl, ap}
+use Rattle.std.proofs.Common.{◌∙◌, rules, codes}
 use Rattle.std.specs.Prelude.{is_some}
 use Rattle.std.specs.Option.{option_map}
 use Rattle.std.specs.Result.{result_map_both}
@@ -14,7 +15,8 @@ use Rattle.compose.specs.Written.{assign}
 use Rattle.request.specs.Anew.{optional, redacted}
 use Rattle.request.proofs.Adding.{Added, added-next, added-none, anew-finished, anew-refused}
 use Rattle.request.proofs.anew.create_anew.Goals as goal
-use Rattle.request.proofs.anew.create_anew.Goals.{After-is_some, in-Some+in_ok-add-2, in_default, then-is_some+in_ok-add-3, else-is_some}
+use Rattle.request.proofs.anew.create_anew.Goals.{After-is_some, in-Some+in_ok-add-2, in_default}
+use Rattle.request.proofs.anew.create_anew.Goals.{then-is_some+in_ok-add-3, else-is_some}
 
 -- the lent bytes end as the writer left them
 ends : {xs ys zs : List ℕ} → ys ≡ zs → xs ≡ ys → xs ≡ zs

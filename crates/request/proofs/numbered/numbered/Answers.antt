@@ -14,4 +14,5 @@ returns c =
     let short = length-decimal-le 10 n (omega arith) (omega arith) (omega (arith, c.from.ensures)) in
     let first = adding _ start front _ _ (omega (arith, c.requires, ap length none)) c.put.ensures.answer c.put.ensures.text in
     let both = adding _ (bounded_text c.put.new.self) (decimal n) _ _ (omega (arith, c.requires, short, ap length none, ap length first.text, length-append start front)) c.put_number.ensures.answer c.put_number.ensures.text in
-    both.text ∙ ap (λ s. s ++ decimal n) (first.text ∙ ap (λ s. s ++ front) none) ∙ ap (λ k. front ++ decimal k) c.from.ensures
+    both.text ∙ ap (λ s. s ++ decimal n) (first.text ∙ ap (λ s. s ++ front) none)
+    ∙ ap (λ k. front ++ decimal k) c.from.ensures

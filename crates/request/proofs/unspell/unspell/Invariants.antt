@@ -7,5 +7,7 @@ use Rattle.request.proofs.unspell.unspell.Given as goal
 abbrev pub invariant-loop-b : goal.invariant-loop-b
 invariant-loop-b l = record {
   room : length l.bytes.items ≤ l.b-index;
-  goes : unspelled l.line ≡ option_map (λ t. l.bytes.items ++ t) (unspelled_from l.behind (drop l.b-index l.line));
+  goes :
+      unspelled l.line
+      ≡ option_map (λ t. l.bytes.items ++ t) (unspelled_from l.behind (drop l.b-index l.line));
 }

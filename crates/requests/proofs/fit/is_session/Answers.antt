@@ -1,4 +1,6 @@
-use Rattle.std.proofs.Common.{◌≡◌, ℕ, ◌-◌, ◌≤◌, ◌<◌, ◌^◌, false, ◌&&◌, eqb, List, [], ◌∷◌, length, get_or, take, drop, Some, None, decimal, Decides, Option, sym, refl, ap, ◌∙◌, arith, rules, lit<}
+use Rattle.std.proofs.Common.{◌≡◌, ℕ, ◌-◌, ◌≤◌, ◌<◌, ◌^◌, false, ◌&&◌, eqb, List, [], ◌∷◌, length}
+use Rattle.std.proofs.Common.{get_or, take, drop, Some, None, decimal, Decides, Option, sym, refl}
+use Rattle.std.proofs.Common.{ap, ◌∙◌, arith, rules, lit<}
 use Rattle.std.specs.Bool.{one_answer}
 use Rattle.std.specs.Option.{option_eq}
 use Rattle.std.proofs.lemmas.Bool.{both_ways, eqb-true, eq-eqb}
@@ -20,15 +22,24 @@ abbrev highest : ℕ
 highest = 2 ^ 32 - 1
 
 -- digits are read as a number of 32 bits exactly where they are its decimal text
-numeral : (ds : List ℕ) (n : ℕ) → n < 2 ^ 32 → option_eq eqb (read_number 0 highest ds) (Some n) ≡ same_bytes ds (decimal n)
+numeral :
+    (ds : List ℕ) (n : ℕ) → n < 2 ^ 32
+    → option_eq eqb (read_number 0 highest ds) (Some n) ≡ same_bytes ds (decimal n)
 numeral ds n small =
     let reads = reads-decimal 0 highest n ds (lit< tt) in
     one_answer _ _ (Decides-like _ (λ e. (reads.0 e).0) (λ e. reads.1 e (omega arith) (omega arith)) (decides-some (read_number 0 highest ds) n)) (decides-same ds (decimal n))
 
-session-is : (t : List ℕ) (n : ℕ) → n < 2 ^ 32 → 1 ≤ length t → get_or t 0 0 ≡ 83 → option_eq eqb (read_number 0 highest (take (length t - 1) (drop 1 t))) (Some n) ≡ same_bytes t (session_name n)
-session-is t n small some first = ap (λ ds. option_eq eqb (read_number 0 highest ds) (Some n)) (take_rest t 1) ∙ numeral (drop 1 t) n small ∙ sym (headed t some first)
+session-is :
+    (t : List ℕ) (n : ℕ) → n < 2 ^ 32 → 1 ≤ length t → get_or t 0 0 ≡ 83
+    → option_eq eqb (read_number 0 highest (take (length t - 1) (drop 1 t))) (Some n)
+    ≡ same_bytes t (session_name n)
+session-is t n small some first =
+    ap (λ ds. option_eq eqb (read_number 0 highest ds) (Some n)) (take_rest t 1)
+    ∙ numeral (drop 1 t) n small ∙ sym (headed t some first)
   where
-    headed : (t : List ℕ) → 1 ≤ length t → get_or t 0 0 ≡ 83 → same_bytes t (session_name n) ≡ same_bytes (drop 1 t) (decimal n)
+    headed :
+        (t : List ℕ) → 1 ≤ length t → get_or t 0 0 ≡ 83
+        → same_bytes t (session_name n) ≡ same_bytes (drop 1 t) (decimal n)
     headed [] some first = absurd (omega arith)
     headed (b ∷ ds) some first = ap (λ h. h && same_bytes ds (decimal n)) (eq-eqb b 83 first)
 

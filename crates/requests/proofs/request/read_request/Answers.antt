@@ -1,7 +1,8 @@
 use Rattle.requests.proofs.Asking.{reads-asked}
 use Rattle.requests.proofs.request.read_request.Goals as goal
 
-pub returns-then-text-gt-REQUEST_LIMIT-clause-grammar : goal.returns-then-text-gt-REQUEST_LIMIT-clause-grammar
+pub returns-then-text-gt-REQUEST_LIMIT-clause-grammar :
+    goal.returns-then-text-gt-REQUEST_LIMIT-clause-grammar
 returns-then-text-gt-REQUEST_LIMIT-clause-grammar c = reads-asked
 
 pub returns-in_err-end-clause-grammar : goal.returns-in_err-end-clause-grammar

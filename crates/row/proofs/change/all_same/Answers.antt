@@ -15,4 +15,6 @@ returns-then-not-is_same g c =
 pub returns : goal.returns
 returns g c =
     let ds = c.args.delta.now in
-    sym c.loop-change.invariant ∙ ap (list_all (λ d. is_same d.mark)) (take_all c.loop-change.change-index ds c.loop-change-test.false) ∙ all_same-means g.R.Value.kind ds
+    sym c.loop-change.invariant
+    ∙ ap (list_all (λ d. is_same d.mark)) (take_all c.loop-change.change-index ds c.loop-change-test.false)
+    ∙ all_same-means g.R.Value.kind ds

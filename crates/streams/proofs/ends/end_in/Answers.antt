@@ -19,8 +19,10 @@ loop-b-preserved c =
     let s = c.args.part.now in
     let left = place_of line_feed (drop (turn.b-index + 1) s) in
     let is : turn.end + c.if-b-eq-LINE_FEED.step + c.if-b-eq-LINE_FEED.step * left ≡ place_of line_feed s = elim c.if-b-eq-LINE_FEED.branch [
-      | then-b-eq-LINE_FEED w ↦ ap (λ n. turn.end + n + n * left) w.step-is ∙ step-here line_feed s turn.b-index turn.end turn.step turn.invariant.0 c.loop-b-test.true w.if-b-eq-LINE_FEED.true
-      | else-b-eq-LINE_FEED w ↦ ap (λ n. turn.end + n + n * left) w.step-is ∙ step-further line_feed s turn.b-index turn.end turn.step turn.invariant.0 c.loop-b-test.true w.if-b-eq-LINE_FEED.false
+      | then-b-eq-LINE_FEED w ↦ ap (λ n. turn.end + n + n * left) w.step-is
+          ∙ step-here line_feed s turn.b-index turn.end turn.step turn.invariant.0 c.loop-b-test.true w.if-b-eq-LINE_FEED.true
+      | else-b-eq-LINE_FEED w ↦ ap (λ n. turn.end + n + n * left) w.step-is
+          ∙ step-further line_feed s turn.b-index turn.end turn.step turn.invariant.0 c.loop-b-test.true w.if-b-eq-LINE_FEED.false
     ] in
     let small : c.if-b-eq-LINE_FEED.step ≤ 1 = elim c.if-b-eq-LINE_FEED.branch [ then-b-eq-LINE_FEED w ↦ omega (arith, w.step-is) | else-b-eq-LINE_FEED w ↦ omega (arith, w.step-is, c.loop-b.invariant.2) ] in
     (is, omega (arith, small, turn.invariant.1), small)
@@ -29,6 +31,7 @@ pub returns : goal.returns
 returns c =
     let turn = c.loop-b in
     record {
-      value = step-done line_feed c.args.part.now turn.b-index turn.end turn.step turn.invariant.0 c.loop-b-test.false;
+      value =
+          step-done line_feed c.args.part.now turn.b-index turn.end turn.step turn.invariant.0 c.loop-b-test.false;
       within = omega (arith, turn.invariant.1);
     }

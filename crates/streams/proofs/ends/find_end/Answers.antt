@@ -4,7 +4,8 @@ use Rattle.std.proofs.Math.Seq.{drop-append_seam}
 use Rattle.tlcp.specs.Parts.{place_of}
 use Rattle.tlcp.proofs.Places.{found-at, found-nowhere}
 use Rattle.streams.specs.Ends.{line_feed}
-use Rattle.streams.proofs.Places.{place-within, place-behind, place-short, rest-is, is-found, is-nowhere}
+use Rattle.streams.proofs.Places.{place-within, place-behind, place-short, rest-is, is-found}
+use Rattle.streams.proofs.Places.{is-nowhere}
 use Rattle.streams.proofs.ends.find_end.Goals as goal
 
 pub returns-then-has_end : goal.returns-then-has_end
@@ -33,8 +34,10 @@ loop-i-preserved c =
           ∙ ap (drop 16) (sym cut ∙ turn.invariant.left)
           ∙ drop-drop 16 (16 * turn.i-iterator.count) s
           ∙ ap (λ n. drop n s) next;
-      long = omega (arith, turn.invariant.long, next, sixteen, ap length cut ∙ length-append part left);
-      place = omega (arith, turn.invariant.place, next, sixteen, ap (place_of line_feed) cut ∙ place-behind line_feed left part (sym c.if-has_end.ensures));
+      long =
+          omega (arith, turn.invariant.long, next, sixteen, ap length cut ∙ length-append part left);
+      place =
+          omega (arith, turn.invariant.place, next, sixteen, ap (place_of line_feed) cut ∙ place-behind line_feed left part (sym c.if-has_end.ensures));
     }
 
 pub returns-in_err-end : goal.returns-in_err-end
@@ -45,7 +48,8 @@ returns-in_err-end c =
     let rest = c.remainder-rest.result.now in
     let is = rest-is s rest turn.i-iterator.iter.rest.now turn.i-iterator.count turn.invariant.long (omega (arith, turn.invariant.size, short)) turn.invariant.left (c.remainder-rest.ensures ∙ c.chunks_exact-parts.ensures.remainder) in
     let long = found-nowhere line_feed rest c.in_err-end.ensures.value in
-    c.from_residual.ensures ∙ is-nowhere line_feed s (omega (arith, turn.invariant.place, turn.invariant.long, ap length is, ap (place_of line_feed) is))
+    c.from_residual.ensures
+    ∙ is-nowhere line_feed s (omega (arith, turn.invariant.place, turn.invariant.long, ap length is, ap (place_of line_feed) is))
 
 pub returns : goal.returns
 returns c =

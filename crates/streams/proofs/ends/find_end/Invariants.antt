@@ -11,5 +11,7 @@ invariant-loop-i l = record {
   size : l.i-iterator.iter.size ≡ 16;
   left : l.i-iterator.iter.rest.now ≡ drop (16 * l.i-iterator.count) l.s;
   long : 16 * l.i-iterator.count + length l.i-iterator.iter.rest.now ≡ length l.s;
-  place : 16 * l.i-iterator.count + place_of line_feed l.i-iterator.iter.rest.now ≡ place_of line_feed l.s;
+  place :
+      16 * l.i-iterator.count + place_of line_feed l.i-iterator.iter.rest.now
+      ≡ place_of line_feed l.s;
 }

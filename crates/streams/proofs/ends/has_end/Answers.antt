@@ -6,6 +6,7 @@ use Rattle.streams.specs.Ends.{line_feed}
 use Rattle.streams.proofs.ends.has_end.Goals as goal
 
 pub returns : goal.returns
-returns c = subst (λ bytes. c.fold.result ≡ list_any (λ b. b == line_feed) bytes) c.iter.ensures.rest
+returns c =
+    subst (λ bytes. c.fold.result ≡ list_any (λ b. b == line_feed) bytes) c.iter.ensures.rest
     (fold_over fronts (λ b. b.now) _ (λ before any. any ≡ list_any (λ b. b == line_feed) before) _ (λ before a x b f k call. search (rules, list_any-append))
     _ _ _ _ (slice_gives c.iter.result) refl c.fold.ensures.ran)

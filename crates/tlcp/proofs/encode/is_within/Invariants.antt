@@ -5,4 +5,5 @@ use Rattle.tlcp.proofs.encode.is_within.Given as goal
 
 -- what has been passed takes the places that are left no more
 abbrev pub invariant-loop-b : goal.invariant-loop-b
-invariant-loop-b l = length (encoded_by (in_class l.class) (take l.b-index l.text)) + l.left ≡ l.room
+invariant-loop-b l =
+    length (encoded_by (in_class l.class) (take l.b-index l.text)) + l.left ≡ l.room

@@ -1,5 +1,6 @@
 use Rattle.std.specs.Option.{option_map}
-use Rattle.std.proofs.Common.{◌≡◌, ◌+◌, ◌-◌, ◌<◌, ◌≤◌, [], ◌∷◌, ◌++◌, length, set, sym, ap, ◌∙◌, append_assoc, arith}
+use Rattle.std.proofs.Common.{◌≡◌, ◌+◌, ◌-◌, ◌<◌, ◌≤◌, [], ◌∷◌, ◌++◌, length, set, sym, ap, ◌∙◌}
+use Rattle.std.proofs.Common.{append_assoc, arith}
 use Rattle.std.proofs.lemmas.List.{length_push}
 use Rattle.std.proofs.lemmas.Bool.{eqb-false}
 use Rattle.tlcp.specs.Escapes.{decode_at, onto, overlaid}
@@ -37,5 +38,6 @@ loop-left-preserved c =
       omega arith,
       omega arith,
       held,
-      c.loop-left.invariant.4 ∙ ap (onto t) step ∙ ap (λ x. record { bytes = x; fault = (decode_at (length s - length rest) rest).fault }) (sym (append_assoc t (b ∷ []) (decode_at (length s - length rest) rest).bytes)),
+      c.loop-left.invariant.4 ∙ ap (onto t) step
+          ∙ ap (λ x. record { bytes = x; fault = (decode_at (length s - length rest) rest).fault }) (sym (append_assoc t (b ∷ []) (decode_at (length s - length rest) rest).bytes)),
     )

@@ -22,7 +22,10 @@ returns-clause-bytes g c =
     let text = c.text.result.now in
     let held : bounded_text c.in_ok-list.list ≡ each_piped (written_values 0 (changes_of g.R.Value.kind delta fields)) = cc c.in_ok-list.ensures in
     let list : take (length text - 1) (drop 1 text) ≡ written_list (changes_of g.R.Value.kind delta fields) = take_rest text 1 ∙ ap (drop 1) (c.text.ensures ∙ held) in
-    c.put.ensures.bytes ∙ ap (λ t. placed_or c.args.at t c.args.out.now) list ∙ sym (cond-true _ _ _ (sym c.covers.ensures ∙ c.if-not-covers.false)) ∙ sym (cond-true _ _ _ long)
+    c.put.ensures.bytes ∙ ap (λ t. placed_or c.args.at t c.args.out.now) list
+    ∙ sym (cond-true _ _ _ (sym c.covers.ensures ∙ c.if-not-covers.false))
+    ∙ sym (cond-true _ _ _ long)
 
 pub returns-clause-read_back : goal.returns-clause-read_back
-returns-clause-read_back g c = λ is some within. read_back g.R.Value.kind c.args.delta.now c.args.fields is within g.met.R.Value.lawful some
+returns-clause-read_back g c =
+    λ is some within. read_back g.R.Value.kind c.args.delta.now c.args.fields is within g.met.R.Value.lawful some

@@ -1,4 +1,5 @@
-use Rattle.std.proofs.Common.{◌≡◌, ◌+◌, ◌*◌, ◌^◌, ◌<◌, true, map, length, get_or, take, sym, ap, ◌∙◌, arith, rules}
+use Rattle.std.proofs.Common.{◌≡◌, ◌+◌, ◌*◌, ◌^◌, ◌<◌, true, map, length, get_or, take, sym, ap}
+use Rattle.std.proofs.Common.{◌∙◌, arith, rules}
 use Rattle.std.specs.Int.Digits.{number_from_digits}
 use Rattle.std.proofs.lemmas.List.{take_all}
 use Rattle.std.proofs.lemmas.List.Folds.{list_all_more}
@@ -7,12 +8,15 @@ use Rattle.row.specs.Limits.{text_limit}
 use Rattle.row.specs.Texts.{every}
 use Rattle.row.specs.Logics.{is_logic, bit_a, bit_b, logic_sound}
 use Rattle.row.specs.Every.{some-from-cond}
-use Rattle.row.specs.LogicsLemmas.{bit_a-small, bit_b-small, word_more, word_fits, allowed-from, record-sound}
+use Rattle.row.specs.LogicsLemmas.{bit_a-small, bit_b-small, word_more, word_fits, allowed-from}
+use Rattle.row.specs.LogicsLemmas.{record-sound}
 use Rattle.row.proofs.logic.Logic.new.Goals as goal
 use Rattle.row.proofs.logic.Logic.new.Goals.{In_ok-in_a, After-loop-character}
 
 -- a turn makes the words of one character more
-turn : (c : In_ok-in_a) → (is_logic (get_or c.args.text.now c.loop-character.character-index 0) ≡ true) × (2 * c.loop-character.a + c.in_ok-in_a.in_a ≡ number_from_digits 2 (map bit_a (take (c.loop-character.character-index + 1) c.args.text.now))) × (2 * c.loop-character.b + c.in_ok-in_a.in_b ≡ number_from_digits 2 (map bit_b (take (c.loop-character.character-index + 1) c.args.text.now)))
+turn :
+    (c : In_ok-in_a)
+    → (is_logic (get_or c.args.text.now c.loop-character.character-index 0) ≡ true) × (2 * c.loop-character.a + c.in_ok-in_a.in_a ≡ number_from_digits 2 (map bit_a (take (c.loop-character.character-index + 1) c.args.text.now))) × (2 * c.loop-character.b + c.in_ok-in_a.in_b ≡ number_from_digits 2 (map bit_b (take (c.loop-character.character-index + 1) c.args.text.now)))
 turn c =
     let text = c.args.text.now in
     let i = c.loop-character.character-index in
@@ -23,10 +27,12 @@ turn c =
     )
 
 fits-a : (c : In_ok-in_a) → 2 * c.loop-character.a + c.in_ok-in_a.in_a < 2 ^ text_limit
-fits-a c = omega (arith, (turn c).1, word_fits bit_a bit_a-small c.args.text.now (c.loop-character.character-index + 1) (omega arith))
+fits-a c =
+    omega (arith, (turn c).1, word_fits bit_a bit_a-small c.args.text.now (c.loop-character.character-index + 1) (omega arith))
 
 fits-b : (c : In_ok-in_a) → 2 * c.loop-character.b + c.in_ok-in_a.in_b < 2 ^ text_limit
-fits-b c = omega (arith, (turn c).2, word_fits bit_b bit_b-small c.args.text.now (c.loop-character.character-index + 1) (omega arith))
+fits-b c =
+    omega (arith, (turn c).2, word_fits bit_b bit_b-small c.args.text.now (c.loop-character.character-index + 1) (omega arith))
 
 pub overflow_mul-a : goal.overflow_mul-a
 overflow_mul-a c = omega (arith, fits-a c)
@@ -53,4 +59,8 @@ invariant_of-result c =
     let in_a = c.loop-character.invariant.1 ∙ ap (λ t. number_from_digits 2 (map bit_a t)) whole in
     let in_b = c.loop-character.invariant.2 ∙ ap (λ t. number_from_digits 2 (map bit_b t)) whole in
     let allowed = allowed-from text (search rules) (omega arith) (ap (every is_logic) (sym whole) ∙ c.loop-character.invariant.0) in
-    record { sound = (λ i. logic_sound (record { a = in_a i; b = in_b i; width = length text })) ∙ record-sound text allowed }
+    record {
+      sound =
+          (λ i. logic_sound (record { a = in_a i; b = in_b i; width = length text }))
+          ∙ record-sound text allowed;
+    }

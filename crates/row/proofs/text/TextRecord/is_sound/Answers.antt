@@ -8,4 +8,5 @@ pub returns-then-len-le-TEXT_LIMIT : goal.returns-then-len-le-TEXT_LIMIT
 returns-then-len-le-TEXT_LIMIT c =
     let r = c.args.self in
     let whole = take_all (length r.bytes - r.len) (drop r.len r.bytes) (simp length-drop (omega arith)) in
-    c.are_zero.ensures ∙ ap (every is_zero) whole ∙ sym (sound-by-zeros r (omega arith) (search rules))
+    c.are_zero.ensures ∙ ap (every is_zero) whole
+    ∙ sym (sound-by-zeros r (omega arith) (search rules))
