@@ -1,9 +1,10 @@
 -- What is promised of the joins of a waiting list, as its pairs are sent and forgotten.
 use Rattle.std.specs.Prelude.{◌≡◌, ◌≢◌, ℕ, Bool, true, not, List, ◌∷◌, take, drop}
 use Rattle.std.specs.List.{list_all}
-use Rattle.row.specs.Rows.{Change, join, blank, all_same}
-use Rattle.waiting.specs.Lists.{Pair, is_for, may_wait, waiting_for, joined, deltas, change_allowed}
-use Rattle.waiting.specs.Policies.{Meaning, listed, after_drop, after_forget}
+use Rattle.row.specs.Rows.{Cell, Change, changed, join, blank, all_same}
+use Rattle.waiting.specs.Lists.{Pair, is_for, may_wait, waiting_for, joined, changed_by_waiting}
+use Rattle.waiting.specs.Lists.{deltas, change_allowed}
+use Rattle.waiting.specs.Policies.{Policy, Put, Lawful, Meaning, listed, after_drop, after_forget}
 
 -- whether the n places from m on are same
 abbrev pub same_in : ℕ → ℕ → List Change → Bool
@@ -39,6 +40,22 @@ abbrev pub SameInEach : Type 0
 SameInEach =
     (m n t : ℕ) (l : List Pair) → list_all may_wait l ≡ true → same_in m n (joined t l) ≡ list_all
     (same_in m n) (waiting_for t l)
+
+-- a row changed by what waits is the row changed by the first pair of its tap, and then by what
+-- waits behind that
+abbrev pub ChangedBySending : Type 0
+ChangedBySending =
+    (p : Pair) (l : List Pair) → list_all may_wait (p ∷ l) ≡ true → (row : List Cell)
+    → changed_by_waiting row p.tap (p ∷ l)
+    ≡ changed_by_waiting (changed row p.delta) p.tap l
+
+-- once a delta was put, it is the row changed by what waited, and then by the delta
+abbrev pub ChangedByPutting : Type 0
+ChangedByPutting =
+    (b : Policy) → Lawful b → (m : Meaning) (t : ℕ) (d : List Change) → Put b m t d
+    → (row : List Cell)
+    → changed_by_waiting row t (listed (b.after m t d))
+    ≡ changed (changed_by_waiting row t (listed m)) d
 
 -- where the texts of all that waits are allowed, so they are once a pair is dropped, and a tap
 -- forgotten

@@ -2,7 +2,7 @@
 use Rattle.std.specs.Prelude.{ℕ, Bool, true, not, ◌&&◌, List, [], ◌∷◌, map, length, cond, fold}
 use Rattle.std.specs.Prelude.{filter, flat_map, ◌==◌}
 use Rattle.row.specs.Limits.{field_limit}
-use Rattle.row.specs.Rows.{Cell, Change, null, value, same, becomes, join, blank, all_same}
+use Rattle.row.specs.Rows.{Cell, Change, null, value, same, becomes, changed, join, blank, all_same}
 use Rattle.row.specs.Taps.{is_tap}
 
 pub record Pair : Type 0 where
@@ -36,6 +36,10 @@ waiting_for t l = map (λ p. p.delta) (filter (is_for t) l)
 -- the join of the deltas that wait for a tap
 abbrev pub joined : ℕ → List Pair → List Change
 joined t l = fold join blank (waiting_for t l)
+
+-- a row of the tap changed by what waits for it
+abbrev pub changed_by_waiting : List Cell → ℕ → List Pair → List Cell
+changed_by_waiting row t l = changed row (joined t l)
 
 -- the changes that wait, one delta behind the other
 abbrev pub deltas : List Pair → List Change

@@ -1,7 +1,12 @@
+use Rattle.std.proofs.Common.{sym, ap, ◌∙◌}
 use Rattle.waiting.specs.JoinsLaws.{joined-first, joined-behind, joined-without}
 use Rattle.waiting.specs.JoinsLaws.{joined-without-other, none-for-blank, same_in-joined, all-drop}
 use Rattle.waiting.specs.JoinsLaws.{all-without}
-use Rattle.waiting.specs.Lists.{change_allowed}
+use Rattle.waiting.specs.Lists.{change_allowed, joined}
+use Rattle.waiting.specs.ListsLaws.{length-joined, waits}
+use Rattle.waiting.specs.Policies.{listed}
+use Rattle.row.specs.Rows.{changed}
+use Rattle.row.proofs.Joining.{row-laws}
 use Rattle.waiting.proofs.joins.joins_keep_their_laws.Goals as goal
 
 pub returns : goal.returns
@@ -12,6 +17,12 @@ returns c = record {
   others = joined-without-other;
   blank = none-for-blank;
   same = same_in-joined;
+  sending = λ p l e row.
+      ap (changed row) (joined-first p l e)
+      ∙ row-laws.by-join row p.delta (joined p.tap l) ((waits p l e).long ∙ sym (length-joined p.tap l));
+  putting = λ b law m t d put row.
+      ap (changed row) (law.own-join m t d put)
+      ∙ row-laws.by-join row (joined t (listed m)) d (length-joined t (listed m) ∙ sym put.whole);
   drop = λ allowed. all-drop (change_allowed allowed);
   forget = λ allowed. all-without (change_allowed allowed);
 }
