@@ -1,6 +1,5 @@
 //! Rows and deltas as memory holds them: whatever records come in, a place without a value then
-//! holds
-//! the rest record, and a value the record of its text.
+//! holds the rest record, and a value the record of its text.
 use row::Mark::{self, Null, Same};
 use row::{
     Cell, Change, FIELD_LIMIT, TEXT_LIMIT, TextRecord, Value, change_row, join_delta, whole_row,

@@ -6,8 +6,7 @@ use std::process::Abort;
 use std::test::*;
 
 // What a request asks for. An operation on a subscription has its ID. A `Request` holds its words
-// in
-// arrays, with bytes behind them that say nothing, so a table cannot spell one.
+// in arrays, with bytes behind them that say nothing, so a table cannot spell one.
 #[derive(Clone, Copy, PartialEq, Debug)]
 enum Asked {
     Create,

@@ -11,9 +11,8 @@ use row::Refusal;
 
 /// Writes a request into lent bytes, zeros behind it, and answers its length. Refused as
 /// `RequestWriter` refuses: with 16 where the name does not fit, the bytes then as they were; with
-/// 6
-/// or 16 for the first pair that it does not take, and with 6 where there is none, the bytes then
-/// zeros.
+/// 6 or 16 for the first pair that it does not take, and with 6 where there is none, the bytes
+/// then zeros.
 pub fn compose(out: &mut [u8], name: Name, pairs: &[Assignment<'_>]) -> Result<usize, Refusal>
     ensures answer { result ≡ length_or (composing name (assignments_in pairs.now) out.old) }
     ensures bytes { out.new

@@ -6,7 +6,7 @@ use Rattle.row.specs.Records.{change_record, null_cell}
 use Rattle.row.specs.Rows.{same}
 use Rattle.tlcp.specs.Limits.{line_limit}
 use Rattle.viewer.specs.Hearing.{Outcome, heard}
-use Rattle.viewer.specs.Entries.{waiting}
+use Rattle.viewer.specs.Entries.{closed_with}
 use Rattle.streams.specs.Answers.{Hearing}
 use Rattle.follow.specs.Answers.{answer_text, rows_text}
 use Rattle.follow.specs.declared.follower.Follower.{Follower}
@@ -35,7 +35,7 @@ module _ {R : Type 0} (k : Kind R) where
   -- a follower that has heard nothing
   abbrev pub opened : Follower R
   opened = record {
-    viewer = record { entries = map waiting (1 ∷ 2 ∷ 3 ∷ 4 ∷ 5 ∷ 6 ∷ 7 ∷ 8 ∷ []) };
+    viewer = record { entries = map closed_with (1 ∷ 2 ∷ 3 ∷ 4 ∷ 5 ∷ 6 ∷ 7 ∷ 8 ∷ []) };
     cells = replicate cell_limit (null_cell k);
     delta = replicate field_limit (change_record k same);
   }

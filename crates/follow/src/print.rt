@@ -8,8 +8,7 @@ use streams::push_refusal;
 use viewer::Heard;
 
 // Appends an answer.
-// ` ok` and ` passed` are bytes: with `write!` `follow` is slower than its plain counterpart
-// (bench/run).
+// ` ok` and ` passed` are bytes: with `write!` for every line `follow` takes longer (bench/run).
 #[inline(always)]
 pub(crate) fn push_answer(
     out: &mut Vec<u8>,

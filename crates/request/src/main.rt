@@ -1,6 +1,5 @@
 //! Checks requests, one on each line of standard input, as the emulator would read them. Its
-//! argument
-//! is the session's number, 1 to 99999; without one it is 1.
+//! argument is the session's number, 1 to 99999; without one it is 1.
 #![tactic(auto)]
 
 ghost use Rattle.std.specs.Prelude.{OnOk};
@@ -26,9 +25,8 @@ use streams::{Failure, answer_all};
 const USAGE: &str = "the session's number is 1 to 99999";
 
 // The session that the program's arguments name, behind its own name: the first where they name
-// none.
-// Like `chosen` of `follow`: one function for both would take a default, a usage and a closure, for
-// these five lines.
+// none. Like `chosen` of `follow`: one function for both would take a default, a usage and a
+// closure, for these five lines.
 fn chosen(rt: &HostRuntime) -> anyhow::Result<u32> {
     let mut words = env::args(rt)?;
     let _ = words.next();

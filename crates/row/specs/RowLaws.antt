@@ -1,6 +1,5 @@
 -- What changing a row and joining deltas do, in words, field by field. A row ends where its fields
--- end: beyond them a cell is null
--- and a change is same.
+-- end: beyond them a cell is null and a change is same.
 use Rattle.std.specs.Prelude.{◌≡◌, ℕ, ◌<◌, List, length, get_or}
 use Rattle.row.specs.Rows.{Cell, Change, null, value, same, becomes, changed, join, blank}
 

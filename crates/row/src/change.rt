@@ -25,8 +25,7 @@ pub enum Mark {
 }
 
 // Not an enum whose cases hold the record: memory that is lent has a record in each place, and a
-// case without one could not
-// say what its bytes are.
+// case without one could not say what its bytes are.
 /// A change of one field. Where it is same or null, `raw` is the kind's rest record.
 #[derive(Clone, Copy)]
 pub struct Change<R> {
@@ -55,8 +54,7 @@ impl<R: Value> Cell<R> {
     }
 
     /// Makes the cell hold the record of its meaning: the rest record where it is null, the rest
-    /// value's
-    /// where its record is not sound.
+    /// value's where its record is not sound.
     pub fn canonicalize(&mut self)
         ensures record { self.new ≡ canonical_cell R.kind self.old }
         ensures means { cell_of R.kind self.new ≡ cell_of R.kind self.old }
@@ -257,9 +255,8 @@ pub fn all_same<R: Value>(delta: &[Change<R>]) -> bool
 }
 
 /// Changes a row by a delta, each of twelve places. Every cell then holds the record of its
-/// meaning,
-/// whatever record stood there. Refused with 1, and nothing touched, where either has another
-/// length.
+/// meaning, whatever record stood there. Refused with 1, and nothing touched, where either has
+/// another length.
 pub fn change_row<R: Value>(row: &mut [Cell<R>], delta: &[Change<R>]) -> Result<(), Refusal>
     ensures answer { result ≡ answer_if (rows_fit row.old delta.now) }
     ensures cells { row.new ≡ (if rows_fit row.old delta.now
@@ -301,12 +298,9 @@ pub fn whole_row<R: Value>(row: &[Cell<R>], delta: &mut [Change<R>]) -> Result<(
 }
 
 /// What changing a row and joining deltas do, field by field: a cell stays where the change is
-/// same,
-/// is null after null and has the value after a value; the join keeps the later change; a row
-/// changed
-/// by a join is the row changed by the one delta and then by the other. Nothing to run: the
-/// contract
-/// says it.
+/// same, is null after null and has the value after a value; the join keeps the later change; a row
+/// changed by a join is the row changed by the one delta and then by the other. Nothing to run: the
+/// contract says it.
 pub fn rows_keep_their_laws()
     ensures { RowLaws }
 {}

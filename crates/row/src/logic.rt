@@ -12,8 +12,7 @@ use crate::text::TEXT_LIMIT;
 use crate::value::Value;
 
 /// A logic value as memory holds it: the words and the width, 1 to 32. Nothing is known of a
-/// record,
-/// since lent memory can hold any; one that is not sound means the rest value, one low bit.
+/// record, since lent memory can hold any; one that is not sound means the rest value, one low bit.
 #[derive(Clone, Copy, PartialEq, Debug)]
 pub struct LogicRecord {
     /// The word a: a bit is 1 for `1` and `x`. The last character has the lowest bit.
@@ -25,8 +24,7 @@ pub struct LogicRecord {
 }
 
 /// A logic value: a record whose width is within its limits and whose words have no bit at or above
-/// it. Of a
-/// bit the words have (0, 0) for `0`, (1, 0) for `1`, (0, 1) for `z` and (1, 1) for `x`.
+/// it. Of a bit the words have (0, 0) for `0`, (1, 0) for `1`, (0, 1) for `z` and (1, 1) for `x`.
 #[derive(Clone, Copy)]
 pub struct Logic {
     held: LogicRecord,
@@ -69,7 +67,7 @@ fn bit_at(word: u32, place: u8) -> u32
 }
 
 impl LogicRecord {
-    // Whether it holds a logic value.
+    // Whether it holds a logic value. Inlined, as that of a text.
     #[inline(always)]
     fn is_sound(self) -> bool
         ensures { result ≡ logic_sound self }

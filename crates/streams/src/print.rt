@@ -7,8 +7,7 @@ use row::Refusal;
 use std::alloc::AllocError;
 
 // Appends a number in decimal.
-// With `write!`, which takes 200 instructions more a line, `follow` is slower than its plain
-// counterpart (bench/run).
+// With `write!`, which takes 200 instructions more a line, `follow` takes longer (bench/run).
 #[inline(always)]
 pub(crate) fn push_number(out: &mut Vec<u8>, n: u64) -> Result<(), AllocError>
     ensures { OnOk result (out.new.items ≡ out.old.items ++ decimal n) }

@@ -10,7 +10,7 @@ use Rattle.std.proofs.lemmas.Bool.{false_from_ne_true, both_ways, not-true, eqb-
 use Rattle.std.proofs.lemmas.Bool.{and_parts, and_from}
 use Rattle.std.proofs.lemmas.List.Quantifiers.{position-Some}
 use Rattle.viewer.specs.Effects.{Effect, opens, closes, updates, nothing}
-use Rattle.viewer.specs.Entries.{fits, fits_open, closed}
+use Rattle.viewer.specs.Entries.{has_id, open_with, closed}
 use Rattle.viewer.specs.Laws.{Fits, First, NoneFits, entry_at}
 use Rattle.viewer.specs.declared.entry.Entry.{Entry}
 
@@ -50,9 +50,9 @@ module _ {X : Type 0} (p : X → Bool) (d : X) where
 
 -- which entries a line fits, as the search tests it
 abbrev test : Effect → Entry → Bool
-test (opens id n) e = fits id e
-test (closes id) e = fits id e
-test (updates id list) e = fits_open id e
+test (opens id n) e = has_id id e
+test (closes id) e = has_id id e
+test (updates id list) e = open_with id e
 test nothing e = false
 
 pub true-some : {X : Type 0} (o : Option X) → IsSome o → (x : X) × (o ≡ Some x)
@@ -62,14 +62,14 @@ true-some (Some x) e = (x, refl)
 fits-true : (asked : Effect) (e : Entry) → Fits asked e → test asked e ≡ true
 fits-true (opens id n) e h = eq-eqb e.id id h
 fits-true (closes id) e h = eq-eqb e.id id h
-fits-true (updates id list) e h = and_from (fits id e) (is_some e.fields) (eq-eqb e.id id h.0) h.1
+fits-true (updates id list) e h = and_from (has_id id e) (is_some e.fields) (eq-eqb e.id id h.0) h.1
 fits-true nothing e h = absurd h
 
 true-fits : (asked : Effect) (e : Entry) → test asked e ≡ true → Fits asked e
 true-fits (opens id n) e h = eqb-true e.id id h
 true-fits (closes id) e h = eqb-true e.id id h
 true-fits (updates id list) e h =
-    let (is, some) = and_parts (fits id e) (is_some e.fields) h in
+    let (is, some) = and_parts (has_id id e) (is_some e.fields) h in
     (eqb-true e.id id is, some)
 true-fits nothing e h = absurd (both_ways false refl h)
 

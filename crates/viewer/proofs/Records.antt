@@ -127,10 +127,10 @@ module _ {R : Type 0} (k : Kind R) where
         → new ≡ put_row k i (changed (map (cell_of k) (row_at i cs)) (map (change_of k) delta)) cs
         → outcome es new delta (Ok Taken) ≡ updated-by o
     updated new old delta o r all twelve inside found ok answer held put =
-        let fits = eq-eqb (length old) field_limit twelve in
+        let fit = eq-eqb (length old) field_limit twelve in
         changed-in-memory law es cs list.at i n list.text all inside new delta read refl
-        (sym (cond-true _ (answer_of read) (Err memory_refusal) fits) ∙ sym answer ∙ ok)
-        (held ∙ cond-true _ (held_delta k read) old fits)
+        (sym (cond-true _ (answer_of read) (Err memory_refusal) fit) ∙ sym answer ∙ ok)
+        (held ∙ cond-true _ (held_delta k read) old fit)
         put
         ∙ ap updated-by (sym found)
 

@@ -5,12 +5,12 @@ use Rattle.std.specs.Option.{option_map}
 use Rattle.viewer.specs.declared.entry.Entry.{Entry}
 
 -- an entry with this ID
-abbrev pub fits : ℕ → Entry → Bool
-fits id e = e.id == id
+abbrev pub has_id : ℕ → Entry → Bool
+has_id id e = e.id == id
 
 -- an open entry with this ID
-abbrev pub fits_open : ℕ → Entry → Bool
-fits_open id e = fits id e && is_some e.fields
+abbrev pub open_with : ℕ → Entry → Bool
+open_with id e = has_id id e && is_some e.fields
 
 -- the index of the first entry that fits
 abbrev pub find_entry : (Entry → Bool) → List Entry → Option ℕ
@@ -24,8 +24,8 @@ abbrev pub closed : Entry
 closed = record { id = 0; fields = None }
 
 -- an entry that holds an ID, closed
-abbrev pub waiting : ℕ → Entry
-waiting id = record { id = id; fields = None }
+abbrev pub closed_with : ℕ → Entry
+closed_with id = record { id = id; fields = None }
 
 -- an entry's index and its field count, if it is open
 abbrev pub with_count : List Entry → Option ℕ → Option (ℕ × ℕ)
@@ -34,4 +34,4 @@ with_count es (Some i) = option_map (λ n. (i, n)) (get_or es i closed).fields
 
 -- the index of the first open entry with an ID, and its field count: a closed entry has none
 abbrev pub find_open : ℕ → List Entry → Option (ℕ × ℕ)
-find_open id es = with_count es (find_entry (fits_open id) es)
+find_open id es = with_count es (find_entry (open_with id) es)

@@ -15,7 +15,7 @@ use Rattle.tlcp.specs.Lines.{Message, read_line}
 use Rattle.tlcp.specs.Lists.{read_list}
 use Rattle.tlcp.specs.Parts.{Piece}
 use Rattle.viewer.specs.Effects.{Effect, opens, closes, updates, nothing, effect_of}
-use Rattle.viewer.specs.Entries.{find_entry, find_open, fits, opened, closed}
+use Rattle.viewer.specs.Entries.{find_entry, find_open, has_id, opened, closed}
 use Rattle.viewer.specs.declared.entry.Entry.{Entry}
 use Rattle.viewer.specs.declared.hear.Heard.{Heard}
 use Rattle.viewer.specs.declared.hear.Heard.TheVariants.{Taken, Passed}
@@ -76,8 +76,8 @@ module _ (es : List Entry) (cs : List Cell) where
     update list (Some (i, n)) = change_by list.at i (read_list allowed n list.text)
 
     abbrev pub hear_effect : Effect → Result View Refusal
-    hear_effect (opens id n) = Ok (set_entry (opened id n) (find_entry (fits id) es))
-    hear_effect (closes id) = Ok (set_entry closed (find_entry (fits id) es))
+    hear_effect (opens id n) = Ok (set_entry (opened id n) (find_entry (has_id id) es))
+    hear_effect (closes id) = Ok (set_entry closed (find_entry (has_id id) es))
     hear_effect (updates id list) = update list (find_open id es)
     hear_effect nothing = Ok (unmoved Taken)
 

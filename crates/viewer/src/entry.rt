@@ -1,6 +1,6 @@
 //! The entries of a viewer.
 ghost use Rattle.std.specs.Prelude.{◌≡◌, ◌<◌, length, IfSome};
-ghost use Rattle.viewer.specs.Entries.{find_entry, find_open, fits, fits_open};
+ghost use Rattle.viewer.specs.Entries.{find_entry, find_open, has_id, open_with};
 
 // a viewer can be made with any IDs, so of an `Option` both `None` and `Some(0)` would be no ID
 /// What a viewer knows of a tap. The tap's cells do not stand here, since they lie in memory that
@@ -24,7 +24,7 @@ impl Entry {
 
 // The index of the first entry with an ID.
 pub(crate) fn find_entry(entries: &[Entry], id: u32) -> Option<usize>
-    ensures value { result ≡ find_entry (fits id) entries.now }
+    ensures value { result ≡ find_entry (has_id id) entries.now }
     ensures within { IfSome result (λ i. i < length entries.now) }
 {
     entries.iter().position(|entry| entry.id == id)
@@ -43,7 +43,7 @@ pub(crate) fn find_open(entries: &[Entry], id: u32) -> Option<(usize, usize)>
 }
 
 fn find_open_index(entries: &[Entry], id: u32) -> Option<usize>
-    ensures value { result ≡ find_entry (fits_open id) entries.now }
+    ensures value { result ≡ find_entry (open_with id) entries.now }
     ensures within { IfSome result (λ i. i < length entries.now) }
 {
     entries

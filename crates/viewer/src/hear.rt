@@ -5,7 +5,7 @@ ghost use Rattle.row.specs.Limits.{field_limit, tap_limit, cell_limit};
 ghost use Rattle.row.specs.Records.{cell_of};
 ghost use Rattle.tlcp.specs.Said.{arguments_in, piece_in, tag_in};
 ghost use Rattle.viewer.specs.Effects.{effect_of};
-ghost use Rattle.viewer.specs.Entries.{find_entry, find_open, fits, waiting};
+ghost use Rattle.viewer.specs.Entries.{find_entry, find_open, has_id, closed_with};
 ghost use Rattle.viewer.specs.Hearing.{set_entry, update, hear_effect, told, heard, in_memory};
 ghost use Rattle.viewer.specs.Hearing.{outcome, fitting, MeansHeard, StaysCanonical};
 
@@ -35,7 +35,7 @@ pub struct Viewer {
 impl Viewer {
     /// A viewer whose entries hold these IDs, 0 for none, all of them closed.
     pub fn holding(ids: [u32; TAP_LIMIT]) -> Viewer
-        ensures { result.entries ≡ map waiting ids }
+        ensures { result.entries ≡ map closed_with ids }
     {
         Viewer {
             entries: ids.map(|id| Entry { id, fields: None }),
@@ -62,7 +62,7 @@ impl Viewer {
         ensures { outcome self.new.entries cells.new delta.new (Ok result) ≡
             in_memory R.kind self.old.entries cells.old
             (Ok (set_entry self.old.entries (map (cell_of R.kind) cells.old) entry
-            (find_entry (fits id) self.old.entries))) }
+            (find_entry (has_id id) self.old.entries))) }
     {
         blank(delta);
         let Some(i) = find_entry(&self.entries, id) else {

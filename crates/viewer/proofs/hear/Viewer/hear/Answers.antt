@@ -5,7 +5,7 @@ use Rattle.viewer.proofs.Records.{means-heard, stays-canonical, refused-stays}
 use Rattle.viewer.proofs.hear.Viewer.hear.Goals as goal
 
 pub returns-clause-means : goal.returns-clause-means
-returns-clause-means g c = λ fits.
+returns-clause-means g c = λ fit.
     let es = c.args.self.now.entries in
     let cs = c.args.cells.now in
     let eight : length es ≡ tap_limit = search rules in
