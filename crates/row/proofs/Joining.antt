@@ -1,5 +1,5 @@
 -- Changing a row and joining deltas, field by field.
-use Rattle.std.proofs.Common.{◌≡◌, ℕ, zero, suc, ◌<◌, true, List, [], ◌∷◌, length, replicate}
+use Rattle.std.proofs.Common.{◌≡◌, ℕ, zero, suc, ◌<◌, true, List, [], ◌∷◌, map, length, replicate}
 use Rattle.std.proofs.Common.{get_or, refl, sym, ap, ◌∙◌, arith}
 use Rattle.std.proofs.lemmas.Bool.{both_ways}
 use Rattle.row.specs.Limits.{field_limit}
@@ -61,6 +61,13 @@ blank-row zero (c ∷ row) = refl
 blank-row (suc n) [] = refl
 blank-row (suc n) (c ∷ row) = ap (λ l. c ∷ l) (blank-row n row)
 
+whole-row :
+    (row whole : List Cell) → length row ≡ length whole → changed row (map becomes whole) ≡ whole
+whole-row [] [] h = refl
+whole-row [] (w ∷ whole) h = absurd (omega arith)
+whole-row (c ∷ row) [] h = absurd (omega arith)
+whole-row (c ∷ row) (w ∷ whole) h = ap (λ l. w ∷ l) (whole-row row whole (omega arith))
+
 pub row-laws : RowLaws
 row-laws = record {
   stays = λ row d i h. over-idle change_cell same (λ _. refl) row d i null h;
@@ -75,5 +82,6 @@ row-laws = record {
   join-length = length-over join_change;
   by-join = over-over change_cell join_change change-twice;
   joins-group = λ c d e h k. sym (over-over join_change join_change join-twice c d e k);
+  by-whole = whole-row;
   by-blank = blank-row field_limit;
 }

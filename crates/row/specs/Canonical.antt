@@ -4,7 +4,7 @@ use Rattle.std.proofs.Common.{sym, ap, ◌∙◌}
 use Rattle.std.proofs.lemmas.Simd.{map-map}
 use Rattle.row.specs.Kinds.{Kind, Lawful}
 use Rattle.row.specs.Records.{canonical, canonical_cell, cell_of, change_of, change_record, later}
-use Rattle.row.specs.Records.{takes, wholly}
+use Rattle.row.specs.Records.{changed_cell, wholly}
 use Rattle.row.specs.Rows.{becomes, change_cell, join_change, value}
 use Rattle.row.specs.declared.change.Cell.{Cell}
 use Rattle.row.specs.declared.change.Change.{Change}
@@ -43,21 +43,24 @@ module _ {R : Type 0} (k : Kind R) where
     pub cell-same : (c : Cell R) → cell_of k (canonical_cell k c) ≡ cell_of k c
     cell-same c = cell-by c.null c.raw
 
-    takes-by : (c : Cell R) (m : Mark) (r : R) → let d : Change R = record
-        { mark = m; raw = r } in cell_of k (takes k c d) ≡ change_cell (cell_of k c) (change_of k d)
-    takes-by c Same r = cell-same c
-    takes-by c Null r = refl
-    takes-by c Value r = ap value (text-same r)
+    changed_cell-by :
+        (c : Cell R) (m : Mark) (r : R)
+        → let d : Change R = record { mark = m; raw = r } in
+        cell_of k (changed_cell k c d) ≡ change_cell (cell_of k c) (change_of k d)
+    changed_cell-by c Same r = cell-same c
+    changed_cell-by c Null r = refl
+    changed_cell-by c Value r = ap value (text-same r)
 
     -- what changing and joining leave in a place means what they make of the texts
-    pub takes-means :
+    pub changed_cell-means :
         (c : Cell R) (d : Change R)
-        → cell_of k (takes k c d) ≡ change_cell (cell_of k c) (change_of k d)
-    takes-means c d = takes-by c d.mark d.raw
+        → cell_of k (changed_cell k c d) ≡ change_cell (cell_of k c) (change_of k d)
+    changed_cell-means c d = changed_cell-by c d.mark d.raw
 
-    later-by : (c : Change R) (m : Mark) (r : R) → let d : Change R = record
-        { mark = m; raw = r } in change_of k (later k c d) ≡ join_change (change_of k c)
-        (change_of k d)
+    later-by :
+        (c : Change R) (m : Mark) (r : R)
+        → let d : Change R = record { mark = m; raw = r } in
+        change_of k (later k c d) ≡ join_change (change_of k c) (change_of k d)
     later-by c Same r = means-same c
     later-by c Null r = refl
     later-by c Value r = ap (λ t. becomes (value t)) (text-same r)
@@ -66,8 +69,10 @@ module _ {R : Type 0} (k : Kind R) where
         (c d : Change R) → change_of k (later k c d) ≡ join_change (change_of k c) (change_of k d)
     later-means c d = later-by c d.mark d.raw
 
-    wholly-by : (n : Bool) (r : R) → let c : Cell R = record { null = n; raw = r } in change_of k
-        (wholly k c) ≡ becomes (cell_of k c)
+    wholly-by :
+        (n : Bool) (r : R)
+        → let c : Cell R = record { null = n; raw = r } in
+        change_of k (wholly k c) ≡ becomes (cell_of k c)
     wholly-by true r = refl
     wholly-by false r = ap (λ t. becomes (value t)) (text-same r)
 

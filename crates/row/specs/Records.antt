@@ -47,8 +47,8 @@ module _ {R : Type 0} (k : Kind R) where
   canonical_cell c = cell_record (cell_of c)
 
   -- one cell after one change
-  abbrev pub takes : Cell R → Change R → Cell R
-  takes c d = cell_record (change_cell (cell_of c) (change_of d))
+  abbrev pub changed_cell : Cell R → Change R → Cell R
+  changed_cell c d = cell_record (change_cell (cell_of c) (change_of d))
 
   -- the join of two changes
   abbrev pub later : Change R → Change R → Change R

@@ -1,6 +1,6 @@
 -- What changing a row and joining deltas do, in words, field by field. A row ends where its fields
 -- end: beyond them a cell is null and a change is same.
-use Rattle.std.specs.Prelude.{◌≡◌, ℕ, ◌<◌, List, length, get_or}
+use Rattle.std.specs.Prelude.{◌≡◌, ℕ, ◌<◌, List, map, length, get_or}
 use Rattle.row.specs.Rows.{Cell, Change, null, value, same, becomes, changed, join, blank}
 
 abbrev pub cell_at : List Cell → ℕ → Cell
@@ -38,5 +38,8 @@ pub record RowLaws : Type 0 where
   pub joins-group :
       (c d e : List Change)
       → length c ≡ length d → length d ≡ length e → join (join c d) e ≡ join c (join d e)
+  -- the delta of a whole row gives any row its state
+  pub by-whole :
+      (row whole : List Cell) → length row ≡ length whole → changed row (map becomes whole) ≡ whole
   -- the delta that is all same changes nothing
   pub by-blank : (row : List Cell) → changed row blank ≡ row

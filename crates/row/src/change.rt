@@ -2,7 +2,7 @@
 ghost use Rattle.std.specs.Prelude.{◌≡◌, true, map, length, replicate, if◌then◌else◌};
 ghost use Rattle.row.specs.Records.{canonical, canonical_cell, cell_of, cell_record, change_of};
 ghost use Rattle.row.specs.Records.{change_record, changed_cells, joined_changes, null_cell};
-ghost use Rattle.row.specs.Records.{is_same, takes, whole_changes, wholly, later, rows_fit};
+ghost use Rattle.row.specs.Records.{is_same, changed_cell, whole_changes, wholly, later, rows_fit};
 ghost use Rattle.row.specs.Records.{answer_if};
 ghost use Rattle.row.specs.RowLaws.{RowLaws};
 ghost use Rattle.row.specs.Rows.{all_same, null, value, same, becomes, over, changed, join};
@@ -68,7 +68,7 @@ impl<R: Value> Cell<R> {
 
     /// The cell after a change, by the record of its meaning.
     pub fn changed_by(mut self, by: Change<R>) -> Cell<R>
-        ensures { result ≡ takes R.kind self by }
+        ensures { result ≡ changed_cell R.kind self by }
     {
         self.step(&by);
         self
@@ -159,7 +159,7 @@ trait Step<By>: Copy {
 }
 
 impl<R: Value> Step<Change<R>> for Cell<R> {
-    ghost after = { takes R.kind };
+    ghost after = { changed_cell R.kind };
 
     // In place: a viewer does this for each place of a row that a line changes, and most changes
     // are same.

@@ -99,7 +99,8 @@ impl fmt::Display for Refusal {
     }
 }
 
-/// The number of each fault, from 1 to 16. Nothing to run: the contract says it.
+/// The number of each fault, from 1 to 16, and which numbers are no tap's. Nothing to run: the
+/// contract says it.
 pub fn faults_have_numbers()
     ensures { FaultNumbers }
 {}

@@ -1,5 +1,5 @@
 //! Kinds of value.
-ghost use Rattle.std.specs.Prelude.{◌≡◌, ℕ, length, if◌then◌else◌, Some, None};
+ghost use Rattle.std.specs.Prelude.{◌≡◌, ℕ, length, if◌then◌else◌, Some, None, [], codes};
 ghost use Rattle.row.specs.Kinds.{Kind, Lawful, Represents, rest_record};
 ghost use Rattle.row.specs.Limits.{text_limit};
 ghost use Rattle.row.specs.Texts.{padded, text_kind, text_sound, text_whole};
@@ -57,8 +57,10 @@ impl Value for TextRecord {
     }
 }
 
-/// How the records of each kind stand for its values. Nothing to run: the contract says it.
+/// How the records of each kind stand for its values, and which texts its rest values have. Nothing
+/// to run: the contract says it.
 pub fn records_stand_for_values()
     ensures text { Represents text_kind text_sound text_whole }
+    ensures rest { (text_kind.rest ≡ []) × (logic_kind.rest ≡ codes "0") }
     ensures logic { Represents logic_kind logic_sound logic_sound }
 {}

@@ -1,6 +1,6 @@
 use Rattle.std.proofs.Common.{cond, map, ap, ◌∙◌}
-use Rattle.row.specs.Canonical.{takes-means}
-use Rattle.row.specs.Records.{cell_of, cell_record, change_of, rows_fit, takes}
+use Rattle.row.specs.Canonical.{changed_cell-means}
+use Rattle.row.specs.Records.{cell_of, cell_record, change_of, rows_fit, changed_cell}
 use Rattle.row.specs.Rows.{change_cell}
 use Rattle.row.proofs.Over.{either-read, map-either, map-over}
 use Rattle.row.proofs.change.change_row.Goals as goal
@@ -16,7 +16,7 @@ returns-clause-means g c =
     let k = g.R.Value.kind in
     let row = c.args.row.now in
     let delta = c.args.delta.now in
-    let means = map-over (cell_of k) (change_of k) (takes k) change_cell (takes-means k g.met.R.Value.lawful) row delta in
+    let means = map-over (cell_of k) (change_of k) (changed_cell k) change_cell (changed_cell-means k g.met.R.Value.lawful) row delta in
     ap (map (cell_of k)) c.step_all.ensures.places
     ∙ map-either (cell_of k) (rows_fit row delta) _ row
     ∙ ap (λ cs. cond (rows_fit row delta) cs (map (cell_of k) row)) means
