@@ -4,3 +4,4 @@ pub mod Fed
 pub mod Printing
 pub mod Known
 pub mod Long
+pub mod Table

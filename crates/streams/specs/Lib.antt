@@ -1,5 +1,6 @@
 pub mod Ends
 pub mod Lines
+pub mod LineTable
 pub mod Answers
 pub mod Held
 pub mod Feeding

@@ -1,7 +1,9 @@
 //! The lines of a stream, cut from its blocks and heard one after another.
-ghost use Rattle.std.specs.Prelude.{◌≡◌, [], OnOk};
+ghost use Rattle.std.specs.Prelude.{◌≡◌, ℕ, [], OnOk};
 ghost use Rattle.streams.specs.Feeding.{fresh, keep, hear_line, ended, fed, last_line, finished};
 ghost use Rattle.streams.specs.Feeding.{CutAnywhere, PrintsAll};
+ghost use Rattle.streams.specs.LineTable.{LineTable};
+ghost use Rattle.streams.specs.Long.{EnoughBeyond};
 ghost use Rattle.streams.specs.Streams.{Fed, HeardLine, state_of, state_with};
 
 use crate::ends::split_line;
@@ -41,11 +43,14 @@ pub struct Stream<H> {
 
 impl<H: Hear> Stream<H> {
     /// A stream before its first byte. How an input is cut into blocks makes no difference, and
-    /// what all its blocks and its end append is what is printed of its lines.
+    /// what all its blocks and its end append is what is printed of its lines. A listener that takes
+    /// all lines of more than `n` bytes for one has heard enough of a line with `n + 2` bytes.
     pub fn new(heap: Global, listener: H) -> Stream<H>
         ensures state { state_of result ≡ fresh listener }
         ensures blocks { CutAnywhere H.LIMIT H.hearing }
         ensures prints { PrintsAll H.LIMIT H.hearing }
+        ensures lines { LineTable }
+        ensures beyond { (n : ℕ) → EnoughBeyond H.hearing n }
     {
         Stream {
             counted: Counted { listener, count: 0 },
