@@ -3,3 +3,4 @@ pub mod Anewed
 pub mod Checks
 pub mod Sames
 pub mod Adding
+pub mod Table

@@ -17,7 +17,7 @@ use Rattle.tlcp.proofs.Numerals.{reads-decimal}
 use Rattle.requests.specs.Asked.{Given, Readable, Apart, Formed, creates, binds, adds, deletes}
 use Rattle.requests.specs.Asked.{rebinds, Right, found}
 use Rattle.requests.specs.Limits.{request_limit, value_limit}
-use Rattle.requests.specs.Names.{index_of, is_in, needs, takes}
+use Rattle.requests.specs.Names.{form_word, index_of, is_in, needs, takes}
 use Rattle.requests.specs.Requests.{Request, create, bind, add, delete, rebind, request_of}
 use Rattle.requests.specs.Values.{session_name}
 use Rattle.requests.specs.declared.name.Form.{Form}
@@ -137,7 +137,9 @@ module _ (session : ℕ) where
   module _ (r : List ℕ) (ids : Right session RequestId r) (fine : Fine r) where
     same-rebind : Same session (rebind r)
     same-rebind =
-        same_by (rebind r) ForceRebind (fine, (fine-word (codes "force_rebind") refl (lit≤ tt), tt)) (refl, (refl, tt)) rebinds (refl, (refl, tt)) (refl, (refl, tt)) (ids, (tt, tt)) refl
+        same_by (rebind r) ForceRebind
+        (fine, (fine-word (form_word ForceRebind) refl (lit≤ tt), tt)) (refl, (refl, tt))
+        rebinds (refl, (refl, tt)) (refl, (refl, tt)) (ids, (tt, tt)) refl
 
     module _ (id : ℕ) (low : 1 ≤ id) (high : id ≤ id_limit) (number : Fine (decimal id)) where
       numbered : Right session SubscriptionId (decimal id)
@@ -145,12 +147,15 @@ module _ (session : ℕ) where
 
       same-delete : Same session (delete r id)
       same-delete =
-          same_by (delete r id) Delete (fine, (fine-word (codes "delete") refl (lit≤ tt), (number, tt))) (refl, (refl, (refl, tt))) deletes (refl, (refl, (refl, tt))) (refl, (refl, (refl, tt))) (ids, (tt, (numbered, tt)))
+          same_by (delete r id) Delete
+          (fine, (fine-word (form_word Delete) refl (lit≤ tt), (number, tt)))
+          (refl, (refl, (refl, tt))) deletes (refl, (refl, (refl, tt)))
+          (refl, (refl, (refl, tt))) (ids, (tt, (numbered, tt)))
           (ap (delete r) (number-again id (decimal id) refl low high))
 
       same_add : (g : List ℕ) → Right session Group g → Fine g → Same session (add r id g)
       same_add g group fg =
-          let op = fine-word (codes "add") refl (lit≤ tt) in
+          let op = fine-word (form_word Add) refl (lit≤ tt) in
           let schema = fine-word (codes "all") refl (lit≤ tt) in
           let mode = fine-word (codes "MERGE") refl (lit≤ tt) in
           let snapshot = fine-word (codes "true") refl (lit≤ tt) in

@@ -2,8 +2,10 @@
 use Rattle.std.specs.Prelude.{◌≡◌, ℕ, List, [], ◌∷◌, Some, None, codes, decimal, Option, Result}
 use Rattle.std.specs.Option.{option_map}
 use Rattle.row.specs.declared.fault.Refusal.{Refusal}
+use Rattle.requests.specs.Names.{form_word}
 use Rattle.requests.specs.Requests.{Request, create, bind, add, delete, rebind}
 use Rattle.requests.specs.Values.{session_name}
+use Rattle.requests.specs.declared.name.Form.TheVariants.{Add, Delete, ForceRebind}
 use Rattle.requests.specs.declared.name.Name.{Name}
 use Rattle.requests.specs.declared.name.Name.TheVariants.{CreateSession, BindSession, Control}
 use Rattle.requests.specs.declared.name.Parameter.{Parameter}
@@ -35,12 +37,13 @@ pairs_for session (create c u w) =
     assign Cid c ∷ optional User u (optional Password (redacted w) [])
 pairs_for session bind = assign Session (session_name session) ∷ []
 pairs_for session (add r id g) =
-    assign RequestId r ∷ assign Operation (codes "add") ∷ assign SubscriptionId
+    assign RequestId r ∷ assign Operation (form_word Add) ∷ assign SubscriptionId
     (decimal id) ∷ assign Group g ∷ assign Schema (codes "all") ∷ assign Mode
     (codes "MERGE") ∷ assign Snapshot (codes "true") ∷ []
 pairs_for session (delete r id) =
-    assign RequestId r ∷ assign Operation (codes "delete") ∷ assign SubscriptionId (decimal id) ∷ []
-pairs_for session (rebind r) = assign RequestId r ∷ assign Operation (codes "force_rebind") ∷ []
+    assign RequestId r ∷ assign Operation (form_word Delete) ∷ assign SubscriptionId
+    (decimal id) ∷ []
+pairs_for session (rebind r) = assign RequestId r ∷ assign Operation (form_word ForceRebind) ∷ []
 
 -- the request in some bytes
 abbrev pub anew : ℕ → Request → List ℕ → Result Draft Refusal

@@ -6,3 +6,4 @@ pub mod Checking
 pub mod Same
 pub mod Feeding
 pub mod LongLines
+pub mod SpellingTable

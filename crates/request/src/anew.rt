@@ -9,8 +9,9 @@ ghost use Rattle.request.specs.Anew.{Anew};
 
 use crate::numbered::numbered;
 use compose::{Assignment, RequestWriter, compose};
-use requests::{Name, Parameter, Request, Word};
+use requests::{Form, Name, Parameter, Request, Word};
 use row::Refusal;
+use tlcp::Worded;
 
 // Stands for a password.
 const REDACTED: &[u8] = b"redacted";
@@ -51,7 +52,7 @@ fn add_anew(out: &mut [u8], request: Word, subscription: u32, group: Word) -> Re
     let id = numbered(b"", subscription);
     let pairs = [
         Assignment::new(Parameter::RequestId, request.text()),
-        Assignment::new(Parameter::Operation, b"add"),
+        Assignment::new(Parameter::Operation, Form::Add.word()),
         Assignment::new(Parameter::SubscriptionId, id.text()),
         Assignment::new(Parameter::Group, group.text()),
         Assignment::new(Parameter::Schema, b"all"),
@@ -68,7 +69,7 @@ fn delete_anew(out: &mut [u8], request: Word, subscription: u32) -> Result<usize
     let id = numbered(b"", subscription);
     let pairs = [
         Assignment::new(Parameter::RequestId, request.text()),
-        Assignment::new(Parameter::Operation, b"delete"),
+        Assignment::new(Parameter::Operation, Form::Delete.word()),
         Assignment::new(Parameter::SubscriptionId, id.text()),
     ];
     compose(out, Name::Control, &pairs)
@@ -79,7 +80,7 @@ fn rebind_anew(out: &mut [u8], request: Word) -> Result<usize, Refusal>
 {
     let pairs = [
         Assignment::new(Parameter::RequestId, request.text()),
-        Assignment::new(Parameter::Operation, b"force_rebind"),
+        Assignment::new(Parameter::Operation, Form::ForceRebind.word()),
     ];
     compose(out, Name::Control, &pairs)
 }

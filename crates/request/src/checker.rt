@@ -5,6 +5,7 @@ ghost use Rattle.request.specs.Limits.{held_limit};
 ghost use Rattle.request.specs.LongLines.{checker-enough};
 ghost use Rattle.request.specs.Same.{ShowsSame};
 ghost use Rattle.request.specs.Spelling.{ReadsSpelled};
+ghost use Rattle.request.specs.SpellingTable.{SpellingTable};
 
 use crate::answer::{SPELLED_LIMIT, push_answer};
 use std::alloc::AllocError;
@@ -18,11 +19,13 @@ pub struct Checker {
 
 impl Checker {
     /// What checks the requests for a session. What it shows of a request is that request again,
-    /// and what it spells on a line stands for the same bytes.
+    /// and what it spells on a line stands for the same bytes. `SpellingTable` has lines byte by
+    /// byte, with what they stand for, and which are refused with 2 or 16.
     pub fn new(session: u32) -> Checker
         ensures session { result ≡ checker session }
         ensures same { ShowsSame }
         ensures back { ReadsSpelled }
+        ensures table { SpellingTable }
     {
         Checker { session }
     }

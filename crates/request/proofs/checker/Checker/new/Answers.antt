@@ -1,5 +1,6 @@
 use Rattle.request.proofs.Sames.{shows_same}
 use Rattle.request.proofs.Spellings.{reads-spelled}
+use Rattle.request.proofs.Table.{spelling-table}
 use Rattle.request.proofs.checker.Checker.new.Goals as goal
 
 pub returns-clause-same : goal.returns-clause-same
@@ -7,3 +8,6 @@ returns-clause-same c = shows_same
 
 pub returns-clause-back : goal.returns-clause-back
 returns-clause-back c = reads-spelled
+
+pub returns-clause-table : goal.returns-clause-table
+returns-clause-table c = spelling-table
