@@ -43,8 +43,9 @@ pub struct Stream<H> {
 
 impl<H: Hear> Stream<H> {
     /// A stream before its first byte. How an input is cut into blocks makes no difference, and
-    /// what all its blocks and its end append is what is printed of its lines. A listener that takes
-    /// all lines of more than `n` bytes for one has heard enough of a line with `n + 2` bytes.
+    /// what all its blocks and its end append is what is printed of its lines. `LineTable` has some
+    /// inputs and their lines. A listener to whom all lines of more than `n` bytes are one has
+    /// heard enough of a line with `n + 2` bytes.
     pub fn new(heap: Global, listener: H) -> Stream<H>
         ensures state { state_of result ≡ fresh listener }
         ensures blocks { CutAnywhere H.LIMIT H.hearing }
