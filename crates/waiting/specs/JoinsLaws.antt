@@ -1,18 +1,20 @@
 -- What the joins of a waiting list do as its pairs are sent and forgotten.
 use Rattle.std.specs.Prelude.{◌≡◌, ◌≢◌, ℕ, zero, suc, ◌≤◌, Bool, true, false, not, cond, ◌&&◌, List}
-use Rattle.std.specs.Prelude.{[], ◌∷◌, map, length, take, drop, replicate, fold, filter, ◌-◌}
+use Rattle.std.specs.Prelude.{[], ◌∷◌, map, length, take, drop, replicate, fold, filter, ◌-◌, Ok}
 use Rattle.std.proofs.Common.{sym, refl, ap, ◌∙◌, arith}
 use Rattle.std.specs.List.{AllByRecursion, list_all}
 use Rattle.std.proofs.lemmas.Bool.{and_from, and_parts, both_ways, cond_both, eq-eqb, eqb-true}
 use Rattle.std.proofs.lemmas.Bool.{ne_eqb, not-true, not-false, not_from_false}
 use Rattle.std.proofs.Math.Bool.{and-true, and_assoc}
 use Rattle.std.proofs.lemmas.List.{length-drop, length-take, take_all, drop-replicate}
+use Rattle.std.proofs.lemmas.Result.{IfOk-at_ok}
 use Rattle.row.specs.Limits.{field_limit}
 use Rattle.row.specs.Rows.{Change, same, becomes, join_change, join, blank, all_same}
 use Rattle.waiting.specs.Joins.{same_in}
 use Rattle.waiting.specs.Lists.{Pair, is_for, may_wait, waiting_for, joined, deltas, without}
 use Rattle.waiting.specs.ListsLaws.{length-join, join-blank, filter_skip, joined-cons, joined-other}
 use Rattle.waiting.specs.ListsLaws.{parts-deltas, all-deltas, join-same, waits}
+use Rattle.waiting.specs.Policies.{Meaning, first, after_drop}
 
 -- a delta for all places of a row
 abbrev Whole : List Change → Type 0
@@ -65,6 +67,20 @@ joined-first p l e =
     ∙ ap (λ x. fold join x (waiting_for p.tap l))
     (join-blank p.delta w.long ∙ sym (join-same p.delta blank refl))
     ∙ joins-onto (waiting_for p.tap l) p.delta blank refl (whole-deltas p.tap l w.rest)
+
+-- a list with a first pair is that pair before what a drop leaves
+first-before : (m : Meaning) (p : Pair) → first m ≡ Ok p → m ≡ p ∷ after_drop m
+first-before [] p e = IfOk-at_ok (λ q. [] ≡ q ∷ []) e tt
+first-before (q ∷ l) p e = IfOk-at_ok (λ r. q ∷ l ≡ r ∷ l) e refl
+
+-- so the join of its tap is its delta, joined with the join of what a drop leaves
+pub joined-dropped :
+    (m : Meaning) (p : Pair) → list_all may_wait m ≡ true → first m ≡ Ok p
+    → joined p.tap m ≡ join p.delta (joined p.tap (after_drop m))
+joined-dropped m p e f =
+    let is = first-before m p f in
+    ap (joined p.tap) is
+    ∙ joined-first p (after_drop m) (ap (list_all may_wait) (sym is) ∙ e)
 
 -- no pair of a forgotten tap is left
 none-left : (t : ℕ) (l : List Pair) → filter (is_for t) (without t l) ≡ []

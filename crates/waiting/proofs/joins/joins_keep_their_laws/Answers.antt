@@ -1,7 +1,7 @@
 use Rattle.std.proofs.Common.{sym, ap, ◌∙◌}
-use Rattle.waiting.specs.JoinsLaws.{joined-first, joined-behind, joined-without}
-use Rattle.waiting.specs.JoinsLaws.{joined-without-other, none-for-blank, same_in-joined, all-drop}
-use Rattle.waiting.specs.JoinsLaws.{all-without}
+use Rattle.waiting.specs.JoinsLaws.{joined-first, joined-dropped, joined-behind}
+use Rattle.waiting.specs.JoinsLaws.{joined-without, joined-without-other, none-for-blank}
+use Rattle.waiting.specs.JoinsLaws.{same_in-joined, all-drop, all-without}
 use Rattle.waiting.specs.Lists.{change_allowed, joined}
 use Rattle.waiting.specs.ListsLaws.{length-joined, waits}
 use Rattle.waiting.specs.Policies.{listed}
@@ -11,7 +11,7 @@ use Rattle.waiting.proofs.joins.joins_keep_their_laws.Goals as goal
 
 pub returns : goal.returns
 returns c = record {
-  first = joined-first;
+  first = joined-dropped;
   behind = joined-behind;
   without = joined-without;
   others = joined-without-other;
@@ -19,7 +19,8 @@ returns c = record {
   same = same_in-joined;
   sending = λ p l e row.
       ap (changed row) (joined-first p l e)
-      ∙ row-laws.by-join row p.delta (joined p.tap l) ((waits p l e).long ∙ sym (length-joined p.tap l));
+      ∙ row-laws.by-join row p.delta (joined p.tap l)
+      ((waits p l e).long ∙ sym (length-joined p.tap l));
   putting = λ b law m t d put row.
       ap (changed row) (law.own-join m t d put)
       ∙ row-laws.by-join row (joined t (listed m)) d (length-joined t (listed m) ∙ sym put.whole);
