@@ -73,14 +73,19 @@ first-before : (m : Meaning) (p : Pair) → first m ≡ Ok p → m ≡ p ∷ aft
 first-before [] p e = IfOk-at_ok (λ q. [] ≡ q ∷ []) e tt
 first-before (q ∷ l) p e = IfOk-at_ok (λ r. q ∷ l ≡ r ∷ l) e refl
 
--- so the join of its tap is its delta, joined with the join of what a drop leaves
+-- where all of it may wait, so may these
+pub first-waits :
+    (m : Meaning) (p : Pair) → list_all may_wait m ≡ true → first m ≡ Ok p
+    → list_all may_wait (p ∷ after_drop m) ≡ true
+first-waits m p e f = ap (list_all may_wait) (sym (first-before m p f)) ∙ e
+
+-- the join of the first pair's tap is its delta, joined with the join of what a drop leaves
 pub joined-dropped :
     (m : Meaning) (p : Pair) → list_all may_wait m ≡ true → first m ≡ Ok p
     → joined p.tap m ≡ join p.delta (joined p.tap (after_drop m))
 joined-dropped m p e f =
-    let is = first-before m p f in
-    ap (joined p.tap) is
-    ∙ joined-first p (after_drop m) (ap (list_all may_wait) (sym is) ∙ e)
+    ap (joined p.tap) (first-before m p f)
+    ∙ joined-first p (after_drop m) (first-waits m p e f)
 
 -- no pair of a forgotten tap is left
 none-left : (t : ℕ) (l : List Pair) → filter (is_for t) (without t l) ≡ []
@@ -109,6 +114,13 @@ joined-without t l = ap (λ x. fold join blank (map (λ p. p.delta) x)) (none-le
 -- another tap's join does not have the first pair
 pub joined-behind : (p : Pair) (l : List Pair) (u : ℕ) → u ≢ p.tap → joined u (p ∷ l) ≡ joined u l
 joined-behind p l u ne = joined-other u p l (ne_eqb p.tap u (λ e. ne (sym e)))
+
+-- so it is the join of what a drop leaves
+pub other-dropped :
+    (m : Meaning) (p : Pair) (u : ℕ) → first m ≡ Ok p → u ≢ p.tap
+    → joined u m ≡ joined u (after_drop m)
+other-dropped m p u f ne =
+    ap (joined u) (first-before m p f) ∙ joined-behind p (after_drop m) u ne
 
 -- and every other tap's join stays
 pub joined-without-other : (t u : ℕ) (l : List Pair) → u ≢ t → joined u (without t l) ≡ joined u l
