@@ -19,5 +19,5 @@ refusals = record {
   longest = refl;
   fits = refl;
   another = refl;
-  length = refl;
+  whole = refl;
 }

@@ -1,14 +1,13 @@
 -- The refusals of the request writer, by their numbers, and which of two is told. All of them are
 -- at place 0.
-use Rattle.std.specs.Prelude.{◌≡◌, ℕ, Bool, true, false, List, [], ◌∷◌, length, replicate}
+use Rattle.std.specs.Prelude.{◌≡◌, ℕ, List, [], replicate}
 use Rattle.row.specs.Faults.{Answer, accepted, by_numbers, refused}
 use Rattle.requests.specs.declared.name.Name.TheVariants.{CreateSession, Control}
-use Rattle.requests.specs.declared.name.Parameter.TheVariants.{Cid, User, Session, RequestId}
-use Rattle.requests.specs.declared.name.Parameter.TheVariants.{Operation}
+use Rattle.requests.specs.declared.name.Parameter.TheVariants.{Cid, User, Session}
 use Rattle.compose.specs.Drafts.{Draft, add_answer, add_to, begin, ending, length_or}
 use Rattle.compose.specs.Written.{Assignment, assign}
 
--- a writer of create_session over n bytes: the name and CR LF take 16
+-- a writer of create_session over n zeros: the name and CR LF take 16
 abbrev create_in : ℕ → Draft
 create_in n = begin CreateSession (replicate n 0)
 
@@ -22,7 +21,7 @@ added d x = by_numbers (add_answer d x)
 abbrev finished : Draft → Answer ℕ
 finished d = by_numbers (length_or (ending d))
 
--- with the client's ID, one byte, which is an addition of 8
+-- with LS_cid=a behind the name, 8 bytes more
 abbrev with_cid : Draft → Draft
 with_cid d = add_to d (assign Cid (value 1))
 
@@ -49,4 +48,4 @@ pub record Refusals : Type 0 where
   pub longest : added (create_in 200) (assign Cid (value 64)) ≡ accepted tt
   pub fits : added (create_in 24) (assign Cid (value 1)) ≡ accepted tt
   pub another : added (with_cid (create_in 80)) (assign User (value 1)) ≡ accepted tt
-  pub length : finished (with_cid (create_in 24)) ≡ accepted 24
+  pub whole : finished (with_cid (create_in 24)) ≡ accepted 24

@@ -93,7 +93,7 @@ impl<'a> RequestWriter<'a> {
 
     /// A writer of a request with this name. It zeroes the lent bytes and begins them with the
     /// name and CR LF; bytes that are too few for these it never touches, and each later call is
-    /// refused with 16.
+    /// refused with 16. The clause `refusals` is a table of what the writer refuses, by number.
     pub fn new(out: &'a mut [u8], name: Name) -> RequestWriter<'a>
         ensures draft { draft_of result ≡ begin name out.old }
         ensures pairs { (draft_of result).begun ≡ true → Holds (draft_of result) [] }
