@@ -4,3 +4,4 @@ pub mod Composing
 pub mod ReadingBack
 pub mod Wholes
 pub mod Rooms
+pub mod Refusing

@@ -6,3 +6,4 @@ pub mod Held
 pub mod Composed
 pub mod ReadBack
 pub mod Assignments
+pub mod Refused

@@ -9,6 +9,7 @@ ghost use Rattle.compose.specs.Drafts.{left_by, length_or};
 ghost use Rattle.compose.specs.Made.{Made, len_of};
 ghost use Rattle.compose.specs.Held.{Holds, WithinLimit, finish_answer, finish_bytes, pairs_after};
 ghost use Rattle.compose.specs.ReadBack.{ReadsBack};
+ghost use Rattle.compose.specs.Refused.{Refusals};
 
 use crate::assignment::Assignment;
 use crate::part::{put_head, put_pair};
@@ -92,11 +93,12 @@ impl<'a> RequestWriter<'a> {
 
     /// A writer of a request with this name. It zeroes the lent bytes and begins them with the
     /// name and CR LF; bytes that are too few for these it never touches, and each later call is
-    /// refused with 16.
+    /// refused with 16. The clause `refusals` is a table of what the writer refuses, by number.
     pub fn new(out: &'a mut [u8], name: Name) -> RequestWriter<'a>
         ensures draft { draft_of result ≡ begin name out.old }
         ensures pairs { (draft_of result).begun ≡ true → Holds (draft_of result) [] }
         ensures lent { result.out.ghost_name ≡ out.entry.ghost_name }
+        ensures refusals { Refusals }
     {
         let begun = put_head(out, name).ok().map(|len| Begun {
             len,

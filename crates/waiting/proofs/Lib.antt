@@ -4,3 +4,4 @@ pub mod Forgetting
 pub mod QueueRows
 pub mod MarksIn
 pub mod Putting
+pub mod Refusing

@@ -1,10 +1,11 @@
 -- What is promised of the joins of a waiting list, as its pairs are sent and forgotten.
-use Rattle.std.specs.Prelude.{◌≡◌, ◌≢◌, ℕ, Bool, true, not, List, ◌∷◌, take, drop}
+use Rattle.std.specs.Prelude.{◌≡◌, ◌≢◌, ℕ, Bool, true, not, List, take, drop, Ok}
 use Rattle.std.specs.List.{list_all}
 use Rattle.row.specs.Rows.{Cell, Change, changed, join, blank, all_same}
 use Rattle.waiting.specs.Lists.{Pair, is_for, may_wait, waiting_for, joined, changed_by_waiting}
 use Rattle.waiting.specs.Lists.{deltas, change_allowed}
-use Rattle.waiting.specs.Policies.{Policy, Put, Lawful, Meaning, listed, after_drop, after_forget}
+use Rattle.waiting.specs.Policies.{Policy, Put, Lawful, Meaning, listed, first, after_drop}
+use Rattle.waiting.specs.Policies.{after_forget}
 
 -- whether the n places from m on are same
 abbrev pub same_in : ℕ → ℕ → List Change → Bool
@@ -13,12 +14,14 @@ same_in m n d = all_same (take n (drop m d))
 -- the join of the first pair's tap is its delta, joined with the join of what waits behind it
 abbrev pub FirstTakenOff : Type 0
 FirstTakenOff =
-    (p : Pair) (l : List Pair) → list_all may_wait (p ∷ l) ≡ true → joined p.tap
-    (p ∷ l) ≡ join p.delta (joined p.tap l)
+    (m : Meaning) (p : Pair) → list_all may_wait (listed m) ≡ true → first (listed m) ≡ Ok p
+    → joined p.tap (listed m) ≡ join p.delta (joined p.tap (listed (after_drop m)))
 
 -- every other tap's join is the join of what waits behind it
 abbrev pub OthersBehind : Type 0
-OthersBehind = (p : Pair) (l : List Pair) (u : ℕ) → u ≢ p.tap → joined u (p ∷ l) ≡ joined u l
+OthersBehind =
+    (m : Meaning) (p : Pair) (u : ℕ) → first (listed m) ≡ Ok p → u ≢ p.tap
+    → joined u (listed m) ≡ joined u (listed (after_drop m))
 
 -- without a tap's pairs its join is blank
 abbrev pub BlankWithout : Type 0
@@ -45,9 +48,10 @@ SameInEach =
 -- waits behind that
 abbrev pub ChangedBySending : Type 0
 ChangedBySending =
-    (p : Pair) (l : List Pair) → list_all may_wait (p ∷ l) ≡ true → (row : List Cell)
-    → changed_by_waiting row p.tap (p ∷ l)
-    ≡ changed_by_waiting (changed row p.delta) p.tap l
+    (m : Meaning) (p : Pair) → list_all may_wait (listed m) ≡ true → first (listed m) ≡ Ok p
+    → (row : List Cell)
+    → changed_by_waiting row p.tap (listed m)
+    ≡ changed_by_waiting (changed row p.delta) p.tap (listed (after_drop m))
 
 -- once a delta was put, it is the row changed by what waited, and then by the delta
 abbrev pub ChangedByPutting : Type 0

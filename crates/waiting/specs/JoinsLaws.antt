@@ -1,18 +1,20 @@
 -- What the joins of a waiting list do as its pairs are sent and forgotten.
 use Rattle.std.specs.Prelude.{◌≡◌, ◌≢◌, ℕ, zero, suc, ◌≤◌, Bool, true, false, not, cond, ◌&&◌, List}
-use Rattle.std.specs.Prelude.{[], ◌∷◌, map, length, take, drop, replicate, fold, filter, ◌-◌}
+use Rattle.std.specs.Prelude.{[], ◌∷◌, map, length, take, drop, replicate, fold, filter, ◌-◌, Ok}
 use Rattle.std.proofs.Common.{sym, refl, ap, ◌∙◌, arith}
 use Rattle.std.specs.List.{AllByRecursion, list_all}
 use Rattle.std.proofs.lemmas.Bool.{and_from, and_parts, both_ways, cond_both, eq-eqb, eqb-true}
 use Rattle.std.proofs.lemmas.Bool.{ne_eqb, not-true, not-false, not_from_false}
 use Rattle.std.proofs.Math.Bool.{and-true, and_assoc}
 use Rattle.std.proofs.lemmas.List.{length-drop, length-take, take_all, drop-replicate}
+use Rattle.std.proofs.lemmas.Result.{IfOk-at_ok}
 use Rattle.row.specs.Limits.{field_limit}
 use Rattle.row.specs.Rows.{Change, same, becomes, join_change, join, blank, all_same}
 use Rattle.waiting.specs.Joins.{same_in}
 use Rattle.waiting.specs.Lists.{Pair, is_for, may_wait, waiting_for, joined, deltas, without}
 use Rattle.waiting.specs.ListsLaws.{length-join, join-blank, filter_skip, joined-cons, joined-other}
 use Rattle.waiting.specs.ListsLaws.{parts-deltas, all-deltas, join-same, waits}
+use Rattle.waiting.specs.Policies.{Meaning, first, after_drop}
 
 -- a delta for all places of a row
 abbrev Whole : List Change → Type 0
@@ -66,6 +68,25 @@ joined-first p l e =
     (join-blank p.delta w.long ∙ sym (join-same p.delta blank refl))
     ∙ joins-onto (waiting_for p.tap l) p.delta blank refl (whole-deltas p.tap l w.rest)
 
+-- a list with a first pair is that pair before what a drop leaves
+first-before : (m : Meaning) (p : Pair) → first m ≡ Ok p → m ≡ p ∷ after_drop m
+first-before [] p e = IfOk-at_ok (λ q. [] ≡ q ∷ []) e tt
+first-before (q ∷ l) p e = IfOk-at_ok (λ r. q ∷ l ≡ r ∷ l) e refl
+
+-- where all of it may wait, so may these
+pub first-waits :
+    (m : Meaning) (p : Pair) → list_all may_wait m ≡ true → first m ≡ Ok p
+    → list_all may_wait (p ∷ after_drop m) ≡ true
+first-waits m p e f = ap (list_all may_wait) (sym (first-before m p f)) ∙ e
+
+-- the join of the first pair's tap is its delta, joined with the join of what a drop leaves
+pub joined-dropped :
+    (m : Meaning) (p : Pair) → list_all may_wait m ≡ true → first m ≡ Ok p
+    → joined p.tap m ≡ join p.delta (joined p.tap (after_drop m))
+joined-dropped m p e f =
+    ap (joined p.tap) (first-before m p f)
+    ∙ joined-first p (after_drop m) (first-waits m p e f)
+
 -- no pair of a forgotten tap is left
 none-left : (t : ℕ) (l : List Pair) → filter (is_for t) (without t l) ≡ []
 none-left t [] = refl
@@ -93,6 +114,13 @@ joined-without t l = ap (λ x. fold join blank (map (λ p. p.delta) x)) (none-le
 -- another tap's join does not have the first pair
 pub joined-behind : (p : Pair) (l : List Pair) (u : ℕ) → u ≢ p.tap → joined u (p ∷ l) ≡ joined u l
 joined-behind p l u ne = joined-other u p l (ne_eqb p.tap u (λ e. ne (sym e)))
+
+-- so it is the join of what a drop leaves
+pub other-dropped :
+    (m : Meaning) (p : Pair) (u : ℕ) → first m ≡ Ok p → u ≢ p.tap
+    → joined u m ≡ joined u (after_drop m)
+other-dropped m p u f ne =
+    ap (joined u) (first-before m p f) ∙ joined-behind p (after_drop m) u ne
 
 -- and every other tap's join stays
 pub joined-without-other : (t u : ℕ) (l : List Pair) → u ≢ t → joined u (without t l) ≡ joined u l

@@ -11,3 +11,4 @@ pub mod Queues
 pub mod QueueLaws
 pub mod Marks
 pub mod MarksLaws
+pub mod Refused

@@ -6,6 +6,7 @@ mod joins;
 mod lender;
 mod marks;
 mod queue;
+mod refusals;
 mod rows;
 
 pub use buffer::{OverSlice, Pair, Unfit, Waiting};
@@ -13,4 +14,5 @@ pub use joins::joins_keep_their_laws;
 pub use lender::put_alone;
 pub use marks::Marks;
 pub use queue::{PAIR_LIMIT, QUEUE_LIMIT, Queue};
+pub use refusals::buffers_refuse_by_number;
 pub use rows::{clear_row, copy_changes, filled, row_at, store_row};

@@ -4,6 +4,7 @@ use Rattle.std.specs.Prelude.{is_some, false}
 use Rattle.compose.specs.Drafts.{Draft, begin}
 use Rattle.compose.specs.Made.{given_of, len_of}
 use Rattle.compose.proofs.Holding.{begin-tally}
+use Rattle.compose.proofs.Refusing.{refusals}
 use Rattle.compose.proofs.request.RequestWriter.new.Goals as goal
 
 pub invariant_of-result : goal.invariant_of-result
@@ -19,3 +20,6 @@ invariant_of-result c =
     let is : e ≡ begin c.args.name c.args.out.now =
     first_of (search rules, grind (arith, common_steps)) in
     record { made = λ some. ∣ ([], begin-tally c.args.name c.args.out.now e is some) ∣₁ }
+
+pub returns-clause-refusals : goal.returns-clause-refusals
+returns-clause-refusals c = refusals
