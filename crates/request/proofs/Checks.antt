@@ -13,13 +13,13 @@ use Rattle.request.specs.Checking.{anew_text, checked, read_spelled}
 use Rattle.request.specs.Limits.{spelled_limit}
 use Rattle.request.specs.Spelling.{unspelled}
 
-pub text_of :
+pub written-text :
     (x : Result Draft Refusal) (other : List ℕ) (r : Result ℕ Refusal) (bytes : List ℕ)
     → r ≡ length_or x → bytes ≡ bytes_or other x
     → result_map_both (λ n. take n bytes) (λ e. e) r
     ≡ result_map_both (λ d. take d.len d.bytes) (λ e. e) x
-text_of (Ok d) other r bytes p q = λ i. result_map_both (λ n. take n (q i)) (λ e. e) (p i)
-text_of (Err e) other r bytes p q = ap (result_map_both (λ n. take n bytes) (λ e. e)) p
+written-text (Ok d) other r bytes p q = λ i. result_map_both (λ n. take n (q i)) (λ e. e) (p i)
+written-text (Err e) other r bytes p q = ap (result_map_both (λ n. take n bytes) (λ e. e)) p
 
 module _ (session : ℕ) (line t : List ℕ) (short : length line ≤ spelled_limit) (is : Some t ≡ unspelled line) where
   here : checked session line ≡ and_then (read_request session t) (anew_text session)
@@ -32,6 +32,6 @@ module _ (session : ℕ) (line t : List ℕ) (short : length line ≤ spelled_li
       → out ≡ replicate request_limit 0 → Ok q ≡ read_request session t → Anew session q out r bytes
       → result_map_both (λ n. take n bytes) (λ e. e) r ≡ checked session line
   checked-written q out r bytes zeros read written =
-      text_of _ _ r bytes written.length written.text
+      written-text _ _ r bytes written.length written.text
       ∙ ap (λ o. result_map_both (λ d. take d.len d.bytes) (λ e. e) (anew session q o)) zeros
       ∙ sym (here ∙ ap (λ x. and_then x (anew_text session)) (sym read))

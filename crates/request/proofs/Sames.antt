@@ -34,7 +34,7 @@ use Rattle.compose.proofs.Rooms.{keeps-composed}
 use Rattle.request.specs.Anew.{name_for, pairs_for}
 use Rattle.request.specs.Checking.{anew_text}
 use Rattle.request.specs.Same.{shown, ShowsSame}
-use Rattle.request.proofs.Checks.{text_of}
+use Rattle.request.proofs.Checks.{written-text}
 
 -- a value that the writer takes
 abbrev Fine : List ℕ → Type 0
@@ -199,7 +199,7 @@ same-written session q same =
     let text = written name xs in
     let room : length text ≤ length out = omega (arith, within-limit name xs (keeps-fit k), length-replicate {A = ℕ} request_limit 0) in
     let (answer, left) = keeps-composed k out room in
-    sym (text_of (composing name xs out) (zeroed_or name out) (Ok (length text)) (padded (length out) text) (sym answer) (sym left))
+    sym (written-text (composing name xs out) (zeroed_or name out) (Ok (length text)) (padded (length out) text) (sym answer) (sym left))
     ∙ ap Ok (take_at text (replicate (length out - length text) 0) (length text) refl)
 
 pub shows_same : ShowsSame
