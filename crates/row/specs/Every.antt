@@ -1,11 +1,15 @@
 -- A test at each element of a list, and a list with zeros behind it.
 use Rattle.std.specs.Prelude.{◌≡◌, ℕ, zero, suc, ◌+◌, ◌-◌, ◌<◌, ◌≤◌, Bool, true, false, cond, List}
+use Rattle.std.specs.Prelude.{◌*◌, ◌/◌, ◌^◌, not, map}
 use Rattle.std.specs.Prelude.{[], ◌∷◌, ◌++◌, length, take, drop, set, ◌&&◌, replicate, Some, None}
 use Rattle.std.specs.Prelude.{◌==◌, ◌≢◌, nat_le, slice_index, slice_index_or, slice_set, refl}
 use Rattle.std.proofs.Common.{sym, ap, ◌∙◌, ⊎_elim, append_assoc, le_of_suc-le-suc, not-suc-le-zero}
 use Rattle.std.proofs.Common.{arith}
 use Rattle.std.specs.List.{AllByRecursion}
-use Rattle.std.specs.Str.{bytes_eq}
+use Rattle.std.proofs.Math.Nat.{div-div-eq-div-mul, pow-succ', zero-div}
+use Rattle.std.proofs.lemmas.List.{drop-map}
+use Rattle.std.proofs.lemmas.Bool.Decides.{nat_tests}
+use lib.Lanes.{mask_l}
 use Rattle.std.proofs.lemmas.List.{get_or-drop, length-append, length-drop, length-take}
 use Rattle.std.proofs.lemmas.List.{take-append-drop, take_more, drop_all, drop-append-le, drop_at}
 use Rattle.std.proofs.lemmas.List.{set_at, length-take-le, take_at}
@@ -95,13 +99,39 @@ sound-by-zeros r small bytes i =
     le-leb r.len text_limit small i
     && (bytes-every r.bytes bytes i && every is_zero (drop r.len r.bytes))
 
--- bytes are as many zeros where each of them is zero
-pub same-zeros :
-    (n : ℕ) (xs : List ℕ) → length xs ≡ n → bytes_eq xs (replicate n 0) ≡ every is_zero xs
-same-zeros zero [] h = refl
-same-zeros zero (x ∷ xs) h = absurd (omega arith)
-same-zeros (suc n) [] h = absurd (omega arith)
-same-zeros (suc n) (x ∷ xs) h = ap (λ rest. is_zero x && rest) (same-zeros n xs (omega arith))
+-- a mask without its lowest bits
+mask-drop : (ms : List Bool) (n : ℕ) → mask_l ms / 2 ^ n ≡ mask_l (drop n ms)
+mask-drop ms zero = omega arith
+mask-drop [] (suc n) = zero-div (2 ^ suc n)
+mask-drop (m ∷ ms) (suc n) =
+    ap (λ k. mask_l (m ∷ ms) / k) (pow-succ' 2 n)
+    ∙ sym (div-div-eq-div-mul (mask_l (m ∷ ms)) 2 (2 ^ n))
+    ∙ ap (λ k. k / 2 ^ n) (half m (mask_l ms))
+    ∙ mask-drop ms n
+  where
+    half : (m : Bool) (k : ℕ) → (cond m 1 0 + 2 * k) / 2 ≡ k
+    half true k = omega arith
+    half false k = omega arith
+
+-- no bit is set where each of the bits stands for an element that is zero
+mask-zero : (xs : List ℕ) → (mask_l (map (λ x. not (is_zero x)) xs) == 0) ≡ every is_zero xs
+mask-zero [] = refl
+mask-zero (x ∷ xs) =
+    one (is_zero x) (mask_l (map (λ y. not (is_zero y)) xs))
+    ∙ ap (λ rest. is_zero x && rest) (mask-zero xs)
+  where
+    one : (b : Bool) (k : ℕ) → ((cond (not b) 1 0 + 2 * k) == 0) ≡ (b && (k == 0))
+    one true k = grind (arith, nat_tests)
+    one false k = grind (arith, nat_tests)
+
+-- what stands from n on is zero where no bit from n on is set
+pub zeros-by_mask :
+    (n : ℕ) (xs : List ℕ)
+    → (mask_l (map (λ x. not (is_zero x)) xs) / 2 ^ n == 0) ≡ every is_zero (drop n xs)
+zeros-by_mask n xs =
+    ap (λ k. k == 0) (mask-drop (map (λ x. not (is_zero x)) xs) n)
+    ∙ ap (λ ms. mask_l ms == 0) (drop-map (λ x. not (is_zero x)) n xs)
+    ∙ mask-zero (drop n xs)
 
 pub every_more :
     (p : ℕ → Bool) (xs : List ℕ) (i x : ℕ) → i < length xs → x ≡ slice_index xs i

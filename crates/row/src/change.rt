@@ -87,6 +87,16 @@ impl<R: Value> From<Cell<R>> for Change<R> {
     }
 }
 
+// Of any record: whether a change is same stands in its mark alone.
+impl<R: Copy> Change<R> {
+    /// Whether it leaves its cell as it is.
+    pub fn is_same(&self) -> bool
+        ensures { result ≡ is_same self.now.mark }
+    {
+        self.mark == Mark::Same
+    }
+}
+
 impl<R: Value> Change<R> {
     /// The change that leaves its cell as it is.
     pub fn same() -> Change<R>
@@ -119,34 +129,32 @@ impl<R: Value> Change<R> {
         }
     }
 
-    /// Whether it leaves its cell as it is.
-    pub fn is_same(&self) -> bool
-        ensures { result ≡ is_same self.now.mark }
-    {
-        self.mark == Mark::Same
-    }
-
     /// The change by the record that memory holds for its meaning: the rest record where it is same
     /// or null, the rest value's where its record is not sound.
-    pub fn canonical(self) -> Change<R>
+    pub fn canonical(mut self) -> Change<R>
         ensures record { result ≡ canonical R.kind self }
         ensures means { change_of R.kind result ≡ change_of R.kind self }
     {
+        self.canonicalize();
+        self
+    }
+
+    // The same in place.
+    fn canonicalize(&mut self)
+        ensures { self.new ≡ canonical R.kind self.old }
+    {
         match self.mark {
-            Mark::Same => Change::same(),
-            Mark::Null => Change::null(),
-            Mark::Value => Change::setting(self.raw),
+            Mark::Same | Mark::Null => self.raw = R::rest(),
+            Mark::Value => self.raw.canonicalize(),
         }
     }
 
     /// The change that stands for this one and then another, by the record of its meaning.
-    pub fn then(self, next: Change<R>) -> Change<R>
+    pub fn then(mut self, next: Change<R>) -> Change<R>
         ensures { result ≡ later R.kind self next }
     {
-        match next.mark {
-            Mark::Same => self.canonical(),
-            Mark::Null | Mark::Value => next.canonical(),
-        }
+        self.step(&next);
+        self
     }
 }
 
@@ -180,7 +188,12 @@ impl<R: Value> Step<Change<R>> for Change<R> {
     ghost after = { later R.kind };
 
     fn step(&mut self, by: &Change<R>) {
-        *self = self.then(*by);
+        // By its fields: with the change copied whole, `join_delta` takes a quarter more time.
+        if !by.is_same() {
+            self.mark = by.mark;
+            self.raw = by.raw;
+        }
+        self.canonicalize();
     }
 }
 
@@ -188,7 +201,9 @@ impl<R: Value> Step<Cell<R>> for Change<R> {
     ghost after = { λ _ c. wholly R.kind c };
 
     fn step(&mut self, by: &Cell<R>) {
-        *self = (*by).into();
+        self.mark = if by.null { Mark::Null } else { Mark::Value };
+        self.raw = by.raw;
+        self.canonicalize();
     }
 }
 
@@ -237,7 +252,7 @@ pub fn canonicalize<R: Value>(delta: &mut [Change<R>])
     ensures means { map (change_of R.kind) delta.new ≡ map (change_of R.kind) delta.old }
 {
     for change in delta.iter_mut() {
-        *change = change.canonical();
+        change.canonicalize();
     }
 }
 

@@ -1,10 +1,12 @@
 //! Text values: 0 to 32 bytes.
-ghost use Rattle.std.specs.Prelude.{◌≡◌, ◌≤◌, true, length, if◌then◌else◌, Some, None};
+ghost use Rattle.std.specs.Prelude.{◌≡◌, true, length, if◌then◌else◌, Some, None};
 ghost use Rattle.std.specs.Option.{option_map};
 ghost use Rattle.row.specs.Kinds.{rest_record};
 ghost use Rattle.row.specs.Limits.{text_limit};
-ghost use Rattle.row.specs.Texts.{every, is_zero, padded, text_allowed, text_kind, text_of};
-ghost use Rattle.row.specs.Texts.{text_sound, text_record};
+ghost use Rattle.row.specs.Texts.{padded, text_allowed, text_kind, text_of, text_sound};
+ghost use Rattle.row.specs.Texts.{text_record};
+
+use std::simd::prelude::*;
 
 /// The bytes of a value's text, at most.
 pub const TEXT_LIMIT: usize = 32;
@@ -27,27 +29,18 @@ pub struct Text {
     ghost sound: { text_sound held ≡ true },
 }
 
-const ZEROS: [u8; TEXT_LIMIT] = [0; TEXT_LIMIT];
-
-// Compared as a whole, which takes a fifth of the time of a loop that stops at the first other
-// byte: a viewer asks this of each value in a row that a line changes.
-#[inline(always)]
-fn are_zero(bytes: &[u8]) -> bool
-    requires { length bytes.now ≤ text_limit }
-    ensures { result ≡ every is_zero bytes.now }
-{
-    let zeros = &ZEROS[..bytes.len()];
-    bytes == zeros
-}
-
 impl TextRecord {
-    // Whether it holds a text. Inlined, since the record is passed by value: a call would copy it.
+    // Whether it holds a text. A viewer asks this of each value in a row that a line changes: so all
+    // bytes are tested at once, into a mask with a bit for each that is not zero, the first byte's
+    // the lowest. Inlined, since the record is passed by value: a call would copy it.
     #[inline(always)]
     pub(crate) fn is_sound(self) -> bool
         ensures { result ≡ text_sound self }
     {
+        let bytes = u8x32::from_array(self.bytes);
+        let filled = bytes.simd_ne(u8x32::splat(0)).to_bitmask();
         let len = self.len as usize;
-        len <= TEXT_LIMIT && are_zero(&self.bytes[len..])
+        len <= TEXT_LIMIT && filled >> len == 0
     }
 }
 

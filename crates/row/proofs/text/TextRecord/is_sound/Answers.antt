@@ -1,12 +1,13 @@
-use Rattle.std.proofs.Common.{◌-◌, length, drop, sym, ap, ◌∙◌, arith, rules}
-use Rattle.std.proofs.lemmas.List.{length-drop, take_all}
-use Rattle.row.specs.Every.{sound-by-zeros}
-use Rattle.row.specs.Texts.{every, is_zero}
+use Rattle.std.proofs.Common.{◌==◌, ◌/◌, ◌^◌, not, sym, ap, ◌∙◌, arith, rules, w8}
+use Rattle.std.proofs.lemmas.Simd.{bitmask_splat}
+use Rattle.row.specs.Every.{sound-by-zeros, zeros-by_mask}
+use Rattle.row.specs.Limits.{text_limit}
 use Rattle.row.proofs.text.TextRecord.is_sound.Goals as goal
 
 pub returns-then-len-le-TEXT_LIMIT : goal.returns-then-len-le-TEXT_LIMIT
 returns-then-len-le-TEXT_LIMIT c =
     let r = c.args.self in
-    let whole = take_all (length r.bytes - r.len) (drop r.len r.bytes) (simp length-drop (omega arith)) in
-    c.are_zero.ensures ∙ ap (every is_zero) whole
+    let mask = bitmask_splat w8 (λ a b. not (a == b)) r.bytes text_limit 0 (omega arith) (omega arith) in
+    ap (λ m. m / 2 ^ r.len == 0) mask
+    ∙ zeros-by_mask r.len r.bytes
     ∙ sym (sound-by-zeros r (omega arith) (search rules))
