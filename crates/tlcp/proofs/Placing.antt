@@ -45,8 +45,14 @@ module _ (at : ℕ) (t u xs : List ℕ) (room : at + length (t ++ u) ≤ length 
       ∙ omega (arith, front, length-drop (at + length t) xs, both)
 
   module _ (end : ℕ) (ys : List ℕ) (here : end ≡ at + length t) (now : ys ≡ placed at t xs) where
-    fit : end + length u ≤ length ys
+    pub fit : end + length u ≤ length ys
     fit = omega (arith, ap length now, length-placed, both)
+
+    pub placed-next :
+        (r : ℕ) (zs : List ℕ) → r ≡ end + length u → zs ≡ placed end u ys
+        → (r ≡ at + length (t ++ u)) × (zs ≡ placed at (t ++ u) xs)
+    placed-next r zs count bytes =
+        (omega (arith, both), bytes ∙ (λ i. placed (here i) u (now i)) ∙ placed-then)
 
     pub then-placed :
         (r : ℕ) (zs : List ℕ) → Ok r ≡ end_or end u ys → zs ≡ placed_or end u ys
@@ -54,10 +60,8 @@ module _ (at : ℕ) (t u xs : List ℕ) (room : at + length (t ++ u) ≤ length 
     then-placed r zs answer bytes =
         let fits-it = fitting end u ys fit in
         let last : Ok r ≡ Ok (end + length u) = answer ∙ cond-true _ _ _ fits-it in
-        let count : r ≡ end + length u = cc in (
-          omega (arith, both),
-          bytes ∙ cond-true _ _ _ fits-it ∙ (λ i. placed (here i) u (now i)) ∙ placed-then,
-        )
+        let count : r ≡ end + length u = cc in
+        placed-next r zs count (bytes ∙ cond-true _ _ _ fits-it)
 
     pub never-refused : (e : Refusal) → Err e ≡ end_or end u ys → ⊥
     never-refused e answer = refused (answer ∙ cond-true _ _ _ (fitting end u ys fit))

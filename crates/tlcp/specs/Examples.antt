@@ -37,6 +37,8 @@ pub record Examples : Type 0 where
   pub logic-read : by_numbers (read_list logic_allowed 1 (codes "01xz"))
       ≡ accepted (to (codes "01xz") ∷ [])
   pub logic-words : logic_record (codes "01xz") ≡ record { a = 6; b = 3; width = 4 }
+  -- a field of logic has no empty text
+  pub logic-empty : by_numbers (read_list logic_allowed 1 (codes "$")) ≡ refused 8 0
   -- null, the empty text and an empty value; as marks they stand alone
   pub marks-written : written_list (becomes null ∷ to [] ∷ same ∷ []) ≡ codes "#|$|"
   pub marks-read : by_numbers (read_list text_allowed 3 (codes "#|$|"))

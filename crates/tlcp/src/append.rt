@@ -1,5 +1,5 @@
 //! Bytes appended up to a limit.
-ghost use Rattle.std.specs.Prelude.{◌≡◌, ◌<◌, ◌≤◌, [], length, IfErr, take, Some, None};
+ghost use Rattle.std.specs.Prelude.{◌≡◌, ◌+◌, ◌<◌, ◌≤◌, [], ◌++◌, length, IfErr, take, Some, None};
 ghost use Rattle.std.specs.Prelude.{if◌then◌else◌, nat_le, decimal};
 ghost use Rattle.std.specs.Option.{option_map};
 ghost use Rattle.tlcp.specs.Bytes.{in_class};
@@ -10,7 +10,7 @@ ghost use Rattle.tlcp.specs.Bounds.{bounded_text, room_answer};
 
 use crate::bounded::Bounded;
 use crate::class::Class;
-use crate::encode::put_escaped;
+use crate::encode::{place_escaped, put_escaped};
 use crate::escape::decode;
 use crate::list_write::write_list;
 use crate::write::{put, write_number};
@@ -87,6 +87,17 @@ impl<const N: usize> Bounded<N> {
     {
         self.len = put_escaped(&mut self.bytes, self.len, text, class)?;
         Ok(())
+    }
+
+    // Appends a text that has room, its bytes of the class escaped. `put_escaped` first walks the
+    // text to see whether it has.
+    pub(crate) fn append_escaped(&mut self, text: &[u8], class: Class)
+        requires { length (bounded_text self.old) + length (encoded_by (in_class class) text.now)
+            ≤ N }
+        ensures { bounded_text self.new
+            ≡ bounded_text self.old ++ encoded_by (in_class class) text.now }
+    {
+        self.len = place_escaped(&mut self.bytes, self.len, text, class);
     }
 
     /// Appends the changes of the first `fields` fields of a delta as a value list. Refuses with 1

@@ -1,11 +1,11 @@
 //! Texts written with escapes.
-ghost use Rattle.std.specs.Prelude.{◌≡◌, ◌/◌, ◌%◌, ◌<◌, [], ◌∷◌, length, nat_le};
+ghost use Rattle.std.specs.Prelude.{◌≡◌, ◌+◌, ◌/◌, ◌%◌, ◌<◌, ◌≤◌, [], ◌∷◌, length, nat_le};
 ghost use Rattle.tlcp.specs.Bytes.{in_class};
 ghost use Rattle.tlcp.specs.Escapes.{encoded_by, hex_digit, spelled};
-ghost use Rattle.tlcp.specs.Written.{end_or, placed_or};
+ghost use Rattle.tlcp.specs.Written.{end_or, placed, placed_or};
 
 use crate::class::{Class, is_of};
-use crate::write::put;
+use crate::write::place;
 use row::{Fault, Refusal};
 
 // The capital hexadecimal digit of a number below 16.
@@ -24,16 +24,17 @@ pub fn hex_digits(b: u8) -> [u8; 2]
     [hex_digit(b / 16), hex_digit(b % 16)]
 }
 
-// Writes a byte, with an escape where it is of the class.
-fn put_byte(out: &mut [u8], at: usize, b: u8, class: Class) -> Result<usize, Refusal>
-    ensures answer { result ≡ end_or at (spelled (in_class class b) b) out.old }
-    ensures bytes { out.new ≡ placed_or at (spelled (in_class class b) b) out.old }
+// Writes a byte that has room, with an escape where it is of the class.
+fn place_byte(out: &mut [u8], at: usize, b: u8, class: Class) -> usize
+    requires { at + length (spelled (in_class class b) b) ≤ length out.old }
+    ensures end { result ≡ at + length (spelled (in_class class b) b) }
+    ensures bytes { out.new ≡ placed at (spelled (in_class class b) b) out.old }
 {
     if is_of(b, class) {
         let [high, low] = hex_digits(b);
-        put(out, at, &[b'%', high, low])
+        place(out, at, &[b'%', high, low])
     } else {
-        put(out, at, &[b])
+        place(out, at, &[b])
     }
 }
 
@@ -60,6 +61,20 @@ fn is_within(text: &[u8], class: Class, room: usize) -> bool
     true
 }
 
+// Writes a text that has room from the place `at` on, its bytes of the class as escapes, and
+// answers the place behind it.
+pub(crate) fn place_escaped(out: &mut [u8], at: usize, text: &[u8], class: Class) -> usize
+    requires { at + length (encoded_by (in_class class) text.now) ≤ length out.old }
+    ensures end { result ≡ at + length (encoded_by (in_class class) text.now) }
+    ensures bytes { out.new ≡ placed at (encoded_by (in_class class) text.now) out.old }
+{
+    let mut end = at;
+    for b in text {
+        end = place_byte(out, end, *b, class);
+    }
+    end
+}
+
 /// Writes a text from the place `at` on, its bytes of the class as escapes with capital digits, and
 /// answers the place behind it. Refuses with 16 a text that does not fit, and has then touched
 /// nothing.
@@ -70,9 +85,5 @@ pub fn put_escaped(out: &mut [u8], at: usize, text: &[u8], class: Class) -> Resu
     if at > out.len() || !is_within(text, class, out.len() - at) {
         return Err(Fault::Length.at(0));
     }
-    let mut end = at;
-    for b in text {
-        end = put_byte(out, end, *b, class)?;
-    }
-    Ok(end)
+    Ok(place_escaped(out, at, text, class))
 }

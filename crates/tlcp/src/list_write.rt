@@ -1,10 +1,9 @@
 //! Value lists: writing. A list is first written into a buffer, with a pipe before each value.
-ghost use Rattle.std.specs.Prelude.{◌≡◌, ◌+◌, ◌*◌, ◌≤◌, map, length, IfOk, Ok};
+ghost use Rattle.std.specs.Prelude.{◌≡◌, ◌+◌, ◌*◌, ◌≤◌, [], map, length, IfOk};
 ghost use Rattle.row.specs.Limits.{field_limit, text_limit};
 ghost use Rattle.row.specs.Records.{change_of};
 ghost use Rattle.tlcp.specs.Bounds.{Adds, bounded_text};
 ghost use Rattle.tlcp.specs.Lists.{each_piped, run_values, text_value, written_values};
-ghost use Rattle.std.specs.Result.{result_map_both};
 ghost use Rattle.tlcp.specs.Written.{covers, field_room, list_limit, piped_limit, values_of};
 ghost use Rattle.tlcp.specs.Written.{list_answer, list_placed, ReadBack};
 
@@ -33,8 +32,9 @@ fn put_text(list: &mut Piped, text: &[u8]) -> Result<(), Refusal>
     match text {
         [] => list.put(b"$"),
         [first, rest @ ..] => {
-            list.put_escaped(&[*first], Class::EscapedFirst)?;
-            list.put_escaped(rest, Class::Escaped)
+            list.append_escaped(&[*first], Class::EscapedFirst);
+            list.append_escaped(rest, Class::Escaped);
+            Ok(())
         }
     }
 }
@@ -72,25 +72,25 @@ fn put_change<R: Value>(list: &mut Piped, change: &Change<R>) -> Result<(), Refu
     }
 }
 
-// The values of a delta, each behind a pipe.
-fn piped<R: Value>(delta: &[Change<R>]) -> Result<Piped, Refusal>
-    requires { length delta.now ≤ field_limit }
-    ensures { result_map_both bounded_text (λ e. e) result
-        ≡ Ok (each_piped (written_values 0 (map (change_of R.kind) delta.now))) }
+// The values of a delta, each behind a pipe, put into an empty list.
+fn put_values<R: Value>(list: &mut Piped, delta: &[Change<R>]) -> Result<(), Refusal>
+    requires empty { bounded_text list.old ≡ [] }
+    requires few { length delta.now ≤ field_limit }
+    ensures { Adds (bounded_text list.old)
+        (each_piped (written_values 0 (map (change_of R.kind) delta.now))) result
+        (bounded_text list.new) }
 {
-    let mut list = Piped::new();
     let mut run = 0;
     for change in delta {
         if change.is_same() {
             run += 1;
         } else {
-            put_run(&mut list, run)?;
-            put_change(&mut list, change)?;
+            put_run(list, run)?;
+            put_change(list, change)?;
             run = 0;
         }
     }
-    put_run(&mut list, run)?;
-    Ok(list)
+    put_run(list, run)
 }
 
 /// Whether a row may have so many fields: 1 to 12.
@@ -122,6 +122,7 @@ pub fn write_list<R: Value>(
     if !covers(fields) {
         return Err(UNCOVERED);
     }
-    let list = piped(&delta[..fields])?;
+    let mut list = Piped::new();
+    put_values(&mut list, &delta[..fields])?;
     put(out, at, &list.text()[1..])
 }

@@ -2,7 +2,8 @@
 ghost use Rattle.std.specs.Prelude.{◌≡◌};
 ghost use Rattle.tlcp.specs.Lines.{tag_of, word};
 
-use crate::word::{Worded, first_with};
+use crate::text::is_word;
+use crate::word::Worded;
 
 /// What a line's first word may be. Other words, those of the protocol's other notifications among
 /// them, are unknown.
@@ -28,26 +29,19 @@ pub enum Tag {
     Conok,
 }
 
-const TAGS: [Tag; 18] = [
-    Tag::U,
-    Tag::Probe,
-    Tag::Sync,
-    Tag::Loop,
-    Tag::Cons,
-    Tag::Servname,
-    Tag::Clientip,
-    Tag::Reqok,
-    Tag::Unsub,
-    Tag::Conerr,
-    Tag::End,
-    Tag::Error,
-    Tag::Eos,
-    Tag::Subok,
-    Tag::Ov,
-    Tag::Conf,
-    Tag::Reqerr,
-    Tag::Conok,
-];
+// The first of some tags that a word stands for, compared with one after another. Not by
+// `first_with` on a table: a word that is known when this is compiled is compared in a few
+// instructions, and a line's tag is asked for before all else of it.
+macro_rules! first_of {
+    ($word:expr; $($tag:ident)*) => {{
+        $(
+            if is_word($word, Tag::$tag.word()) {
+                return Some(Tag::$tag);
+            }
+        )*
+        None
+    }};
+}
 
 impl Worded for Tag {
     ghost word_of = { word };
@@ -81,6 +75,7 @@ impl Tag {
     pub fn of(word: &[u8]) -> Option<Tag>
         ensures { result ≡ tag_of word.now }
     {
-        first_with(&TAGS, word)
+        first_of!(word; U Probe Sync Loop Cons Servname Clientip Reqok Unsub Conerr End Error Eos
+            Subok Ov Conf Reqerr Conok)
     }
 }

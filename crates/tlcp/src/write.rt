@@ -1,10 +1,21 @@
 //! Bytes and numbers written into lent memory. A writer takes the memory and a place, and answers
 //! the place behind what it wrote, from which its caller goes on.
-ghost use Rattle.std.specs.Prelude.{◌≡◌, decimal};
-ghost use Rattle.tlcp.specs.Written.{end_or, placed_or};
+ghost use Rattle.std.specs.Prelude.{◌≡◌, ◌+◌, ◌≤◌, decimal, length};
+ghost use Rattle.tlcp.specs.Written.{end_or, placed, placed_or};
 
 use itoa::Buffer;
 use row::{Fault, Refusal};
+
+// Writes bytes that have room from the place `at` on, and answers the place behind them.
+pub(crate) fn place(out: &mut [u8], at: usize, bytes: &[u8]) -> usize
+    requires { at + length bytes.now ≤ length out.old }
+    ensures end { result ≡ at + length bytes.now }
+    ensures bytes { out.new ≡ placed at bytes.now out.old }
+{
+    let end = at + bytes.len();
+    out[at..end].copy_from_slice(bytes);
+    end
+}
 
 /// Writes `bytes` from the place `at` on, and answers the place behind them. Refuses with 16 where
 /// they do not fit, and has then touched nothing.
@@ -15,8 +26,7 @@ pub fn put(out: &mut [u8], at: usize, bytes: &[u8]) -> Result<usize, Refusal>
     if at > out.len() || bytes.len() > out.len() - at {
         return Err(Fault::Length.at(0));
     }
-    let end = at + bytes.len();
-    out[at..end].copy_from_slice(bytes);
+    let end = place(out, at, bytes);
     Ok(end)
 }
 

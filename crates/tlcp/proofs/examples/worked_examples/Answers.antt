@@ -18,6 +18,7 @@ returns c = record {
   logic-fits = refl;
   logic-read = refl;
   logic-words = refl;
+  logic-empty = refl;
   marks-written = refl;
   marks-read = refl;
   marks-inside = refl;

@@ -2,9 +2,9 @@ use Rattle.std.proofs.Common.{rules, sym, arith}
 use Rattle.std.proofs.lemmas.List.{length-append}
 use Rattle.tlcp.proofs.Deltas.{before-is, before_same, before-other}
 use Rattle.tlcp.proofs.WrittenLists.{short-run}
-use Rattle.tlcp.proofs.list_write.piped.Goals as goal
-use Rattle.tlcp.proofs.list_write.piped.Goals.{then-is_same}
-use Rattle.tlcp.proofs.list_write.piped.Goals.{else-is_same+in_ok-put_run+in_ok-put_change}
+use Rattle.tlcp.proofs.list_write.put_values.Goals as goal
+use Rattle.tlcp.proofs.list_write.put_values.Goals.{then-is_same}
+use Rattle.tlcp.proofs.list_write.put_values.Goals.{else-is_same+in_ok-put_run+in_ok-put_change}
 
 pub put_change-requires : goal.put_change-requires
 put_change-requires g c = search (rules, short-run, length-append)

@@ -2,7 +2,7 @@ use Rattle.std.proofs.Common.{◌≡◌, ◌+◌, length, take}
 use Rattle.tlcp.specs.Bytes.{in_class}
 use Rattle.tlcp.specs.Escapes.{encoded_by}
 use Rattle.tlcp.specs.Written.{placed}
-use Rattle.tlcp.proofs.encode.put_escaped.Given as goal
+use Rattle.tlcp.proofs.encode.place_escaped.Given as goal
 
 -- what has been passed stands in its place
 abbrev pub invariant-loop-b : goal.invariant-loop-b
