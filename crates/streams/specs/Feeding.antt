@@ -82,6 +82,12 @@ module _ (limit : ℕ) {A : Type 0} (h : Hearing A) where
   fed_all st [] = idle st
   fed_all st (b ∷ bs) = let one = fed st b in after one.text (fed_all one.state bs)
 
+  -- blocks one after the other do what their bytes do as one block, however many these are
+  abbrev pub FedAsOne : Type 0
+  FedAsOne =
+      (st : State A) (blocks : List (List ℕ)) → fed_all st blocks
+      ≡ fed st (flat_map (λ b. b) blocks)
+
   -- what is printed of blocks, fed from the start on, and then of the end, is what is printed of
   -- the input's lines
   abbrev pub PrintsAll : Type 0

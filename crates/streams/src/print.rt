@@ -20,7 +20,8 @@ pub(crate) fn push_number(out: &mut Vec<u8>, n: u64) -> Result<(), AllocError>
 pub fn push_refusal(out: &mut Vec<u8>, refusal: Refusal) -> Result<(), AllocError>
     ensures { OnOk result (out.new.items ≡ out.old.items ++ (codes " no " ++ printed refusal)) }
 {
-    let text = format!(in *out.allocator(); " no {refusal}")?;
-    out.extend_from_slice(text.as_bytes())?;
-    Ok(())
+    out.extend_from_slice(b" no ")?;
+    push_number(out, u64::from(u8::from(refusal.fault)))?;
+    out.extend_from_slice(b" ")?;
+    push_number(out, refusal.place as u64)
 }

@@ -1,7 +1,7 @@
 //! The lines of a stream, cut from its blocks and heard one after another.
 ghost use Rattle.std.specs.Prelude.{◌≡◌, ℕ, [], OnOk};
 ghost use Rattle.streams.specs.Feeding.{fresh, keep, hear_line, ended, fed, last_line, finished};
-ghost use Rattle.streams.specs.Feeding.{CutAnywhere, PrintsAll};
+ghost use Rattle.streams.specs.Feeding.{CutAnywhere, FedAsOne, PrintsAll};
 ghost use Rattle.streams.specs.LineTable.{LineTable};
 ghost use Rattle.streams.specs.Long.{EnoughBeyond};
 ghost use Rattle.streams.specs.Streams.{Fed, HeardLine, state_of, state_with};
@@ -49,6 +49,7 @@ impl<H: Hear> Stream<H> {
     pub fn new(heap: Global, listener: H) -> Stream<H>
         ensures state { state_of result ≡ fresh listener }
         ensures blocks { CutAnywhere H.LIMIT H.hearing }
+        ensures as_one { FedAsOne H.LIMIT H.hearing }
         ensures prints { PrintsAll H.LIMIT H.hearing }
         ensures lines { LineTable }
         ensures beyond { (n : ℕ) → EnoughBeyond H.hearing n }

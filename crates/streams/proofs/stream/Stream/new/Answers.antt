@@ -1,4 +1,4 @@
-use Rattle.streams.proofs.Fed.{cut-anywhere}
+use Rattle.streams.proofs.Fed.{cut-anywhere, fed-all}
 use Rattle.streams.proofs.Long.{enough_beyond}
 use Rattle.streams.proofs.Printing.{prints-all}
 use Rattle.streams.proofs.Table.{line-table}
@@ -6,6 +6,9 @@ use Rattle.streams.proofs.stream.Stream.new.Goals as goal
 
 pub returns-clause-blocks : goal.returns-clause-blocks
 returns-clause-blocks g c = cut-anywhere g.H.Hear.LIMIT g.H.Hear.hearing
+
+pub returns-clause-as_one : goal.returns-clause-as_one
+returns-clause-as_one g c = fed-all g.H.Hear.LIMIT g.H.Hear.hearing
 
 pub returns-clause-prints : goal.returns-clause-prints
 returns-clause-prints g c = prints-all g.H.Hear.LIMIT g.H.Hear.hearing g.met.H.Hear.enough
