@@ -110,10 +110,11 @@ impl Occurrences {
     pub(crate) fn unfit(&self, taken: &[Parameter]) -> Option<usize>
         ensures { result ≡ unfit taken.now (occurrences_in self.now) parameters }
     {
+        // `min` by a closure of its own, so that a must-fail edit can turn the choice alone
         PARAMETERS
             .iter()
             .filter_map(|p| self.unfit_at(taken, *p))
-            .min()
+            .reduce(|a, b| a.min(b))
     }
 }
 
