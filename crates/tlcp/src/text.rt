@@ -28,7 +28,9 @@ pub fn split(s: &[u8], b: u8) -> (&[u8], Option<&[u8]>)
     }
 }
 
+// Inlined, since most callers compare with a word that the compiler knows: no call, then.
 /// Whether a text is this word.
+#[inline(always)]
 pub fn is_word(s: &[u8], word: &[u8]) -> bool
     ensures { result ≡ same_bytes s.now word.now }
 {
