@@ -7,6 +7,7 @@ ghost use Rattle.request.specs.Checking.{answer_text, checked};
 use crate::anew::write_anew;
 use crate::print::push_spelled;
 use crate::unspell::unspell;
+use arrayvec::ArrayVec;
 use requests::{REQUEST_LIMIT, read_request};
 use row::{Fault, Refusal};
 use std::alloc::AllocError;
@@ -23,7 +24,8 @@ fn check(line: &[u8], session: u32, text: &mut [u8]) -> Result<usize, Refusal>
     if line.len() > SPELLED_LIMIT {
         return Err(Fault::Length.at(0));
     }
-    let bytes = unspell(line).ok_or(Fault::Shape.at(0))?;
+    let mut bytes = ArrayVec::new();
+    unspell(line, &mut bytes).ok_or(Fault::Shape.at(0))?;
     let request = read_request(&bytes, session)?;
     write_anew(text, request, session)
 }

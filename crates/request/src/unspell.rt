@@ -1,5 +1,5 @@
 //! A request on one line: `\r`, `\n`, `\\` and `\xHH` stand for bytes.
-ghost use Rattle.std.specs.Prelude.{◌≡◌, ◌≤◌, length, Some};
+ghost use Rattle.std.specs.Prelude.{◌≡◌, ◌≤◌, [], length, Some};
 ghost use Rattle.std.specs.Option.{option_map};
 ghost use Rattle.request.specs.Limits.{spelled_limit};
 ghost use Rattle.request.specs.Spelling.{step_of, unspelled};
@@ -52,12 +52,13 @@ impl Behind {
     }
 }
 
-// The bytes that a line stands for, if there is no other backslash in it.
-pub(crate) fn unspell(line: &[u8]) -> Option<ArrayVec<u8, SPELLED_LIMIT>>
-    requires { length line.now ≤ spelled_limit }
-    ensures { option_map (λ v. v.items) result ≡ unspelled line.now }
+// Puts the bytes that a line stands for into `bytes`, where nothing stands yet; `None` where there
+// is another backslash in it. Lent, since to hand them on by value would copy 8 KiB for each line.
+pub(crate) fn unspell(line: &[u8], bytes: &mut ArrayVec<u8, SPELLED_LIMIT>) -> Option<()>
+    requires empty { bytes.old.items ≡ [] }
+    requires room { length line.now ≤ spelled_limit }
+    ensures { option_map (λ _. bytes.new.items) result ≡ unspelled line.now }
 {
-    let mut bytes = ArrayVec::new();
     let mut behind = Behind::Nothing;
     for b in line {
         behind = match behind.step(*b)? {
@@ -68,5 +69,5 @@ pub(crate) fn unspell(line: &[u8]) -> Option<ArrayVec<u8, SPELLED_LIMIT>>
             Step::More(next) => next,
         };
     }
-    matches!(behind, Behind::Nothing).then_some(bytes)
+    matches!(behind, Behind::Nothing).then_some(())
 }

@@ -1,9 +1,8 @@
 -- Bytes that a reader has and a writer holds, over several reads and writes.
 use Rattle.std.proofs.Common.{◌≡◌, ◌+◌, ◌-◌, ◌^◌, ◌<◌, ◌≤◌, List, [], ◌++◌, ℕ, length, Some, None}
-use Rattle.std.proofs.Common.{Option, IfSome, true, is_ok, Ok, Err, OnOk, Result, refl, sym, ap}
+use Rattle.std.proofs.Common.{Option, IfSome, sym, ap}
 use Rattle.std.proofs.Common.{◌∙◌, append_assoc, subst, arith, inl, inr, ◌⊎◌}
 use Rattle.std.specs.Io.KnownBytes.{Appends, Consumes, IsAtEnd, Keeps}
-use Rattle.std.proofs.lemmas.Bool.{both_ways}
 use Rattle.std.proofs.lemmas.List.{append-nil, length-append}
 
 pub appends-more : (a b c : Option (List ℕ)) (s t : List ℕ) → Appends a b s → Appends b c t
@@ -38,10 +37,3 @@ consumes-kept None b c s p q = tt
 consumes-kept (Some xs) None c s p q = absurd p
 consumes-kept (Some xs) (Some ys) None s p q = absurd q
 consumes-kept (Some xs) (Some ys) (Some zs) s p q = p ∙ ap (λ l. s ++ l) (sym q)
-
--- what holds at Ok holds at the same Ok with another kind of error
-pub same-ok : {X E F : Type 0} (P : Type 0) (r : Result X E) (q : Result X F) → is_ok q ≡ is_ok r
-    → OnOk r P → OnOk q P
-same-ok P r (Err e) same p = tt
-same-ok P (Ok x) (Ok y) same p = p
-same-ok P (Err e) (Ok y) same p = absurd (both_ways true same refl)

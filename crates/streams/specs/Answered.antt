@@ -4,12 +4,13 @@ use Rattle.std.specs.Prelude.{ℕ, ◌+◌, ◌^◌, ◌<◌, ⊤, List, length,
 use Rattle.std.specs.Io.KnownBytes.{Appends, Consumes}
 use Rattle.streams.specs.Answers.{Hearing, printed, printed_so_far}
 use Rattle.streams.specs.declared.failure.Failure.{Failure}
-use Rattle.streams.specs.declared.failure.Failure.TheVariants.{Read, Write}
+use Rattle.streams.specs.declared.failure.Failure.TheVariants.{Read, Memory, Write}
 
 -- P, if a read failed
 abbrev pub OnReadFailure : {X : Type 0} → Result X Failure → Type 0 → Type 0
 OnReadFailure (Ok x) P = ⊤
 OnReadFailure (Err (Read e)) P = P
+OnReadFailure (Err (Memory e)) P = ⊤
 OnReadFailure (Err (Write e)) P = ⊤
 
 module _ {A : Type 0} (h : Hearing A) (a : A) (input left before after : Option (List ℕ)) where

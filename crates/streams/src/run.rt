@@ -9,7 +9,7 @@ use crate::failure::Failure;
 use crate::hear::Hear;
 use crate::stream::Stream;
 use std::alloc::Global;
-use std::io::{self, Read, Write};
+use std::io::{Read, Write};
 
 const BLOCK: usize = 65536;
 
@@ -21,16 +21,17 @@ pub fn answer_block<H: Hear, W: Write>(
     block: &[u8],
     text: &mut Vec<u8>,
     output: &mut W,
-) -> io::Result<()>
+) -> Result<(), Failure>
     ensures state { OnOk result
         (state_of stream.new ≡ (fed H.LIMIT H.hearing (state_of stream.old) block.now).state) }
     ensures written { OnOk result
         (Appends (W.contents output.old) (W.contents output.new)
         (fed H.LIMIT H.hearing (state_of stream.old) block.now).text) }
+    ensures reads_nothing { OnReadFailure result ⊥ }
 {
     text.clear();
-    stream.feed(block, text)?;
-    output.write_all(text)
+    stream.feed(block, text).map_err(Failure::Memory)?;
+    output.write_all(text).map_err(Failure::Write)
 }
 
 // Answers a last line that has no end, if there is one, and says what there is to say at the end.
@@ -38,14 +39,15 @@ fn answer_end<H: Hear, W: Write>(
     heap: Global,
     stream: &mut Stream<H>,
     output: &mut W,
-) -> io::Result<()>
-    ensures { OnOk result
+) -> Result<(), Failure>
+    ensures written { OnOk result
         (Appends (W.contents output.old) (W.contents output.new)
         (finished H.LIMIT H.hearing (state_of stream.old)).text) }
+    ensures reads_nothing { OnReadFailure result ⊥ }
 {
     let mut text = Vec::new(heap);
-    stream.finish(&mut text)?;
-    output.write_all(&text)
+    stream.finish(&mut text).map_err(Failure::Memory)?;
+    output.write_all(&text).map_err(Failure::Write)
 }
 
 /// Answers the lines of an input, in order and each with its number, and says what there is to say
@@ -74,7 +76,7 @@ pub fn answer_all<H: Hear, R: Read, W: Write>(
             Ok(n) => n,
             Err(error) => return Err(Failure::Read(error)),
         };
-        answer_block(&mut stream, &block[..n], &mut text, output).map_err(Failure::Write)?;
+        answer_block(&mut stream, &block[..n], &mut text, output)?;
     }
-    answer_end(rt.alloc(), &mut stream, output).map_err(Failure::Write)
+    answer_end(rt.alloc(), &mut stream, output)
 }

@@ -8,7 +8,8 @@ use Rattle.request.proofs.answer.check.Goals.{After-deref}
 
 spells : (c : After-deref) → Some c.deref.result.now ≡ unspelled c.args.line.now
 spells c =
-    ap Some c.deref.ensures.0 ∙ sym (ap (option_map (λ v. v.items)) c.in_ok-bytes.ensures.ok_part)
+    ap Some c.deref.ensures.0
+    ∙ sym (ap (option_map (λ _. c.unspell.new.bytes.items)) c.in_ok-ok_or.ensures.ok_part)
     ∙ c.unspell.ensures
 
 pub returns : goal.returns

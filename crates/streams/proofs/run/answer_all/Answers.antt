@@ -3,7 +3,7 @@ use Rattle.std.proofs.lemmas.Result.{on_ok_weaker}
 use Rattle.std.specs.Io.KnownBytes.{Appends, IsAtEnd}
 use Rattle.streams.specs.Answers.{printed}
 use Rattle.streams.specs.Feeding.{fed, finished, fresh}
-use Rattle.streams.proofs.Known.{appends-more, at-end, consumes-kept, same-ok, seen-all}
+use Rattle.streams.proofs.Known.{appends-more, at-end, consumes-kept, seen-all}
 use Rattle.streams.proofs.Printing.{prints-lines, prints-so-far}
 use Rattle.streams.proofs.run.answer_all.Goals as goal
 use Rattle.streams.proofs.run.answer_all.Goals.{else-loop-test, then-loop-test+in-Ok-eq0}
@@ -38,12 +38,11 @@ returns-clause-all g c =
           (w.in-Ok-eq0.ensures.bytes.1 w.in-Ok-eq0.field-0-test (omega (arith, so.block))))
     ] in
     let P = Appends before behind in
-    same-ok _ c.answer_end.result c.map_err-2.result c.map_err-2.ensures.variant
-    (on_ok_weaker c.answer_end.result
+    on_ok_weaker c.answer_end.result
     (λ more. seen-all (g.R.Read.remaining c.args.input.now) input seen
     (λ s. P (printed g.H.Hear.hearing c.args.listener s)) so.read ended
     (λ few. subst P
     (prints-lines g.H.Hear.LIMIT g.H.Hear.hearing g.met.H.Hear.enough c.args.listener seen few)
     (appends-more before looped behind all.text (last all.state).text so.wrote
     (subst (λ st. Appends looped behind (last st).text) so.state more))))
-    c.answer_end.ensures)
+    c.answer_end.ensures.written
